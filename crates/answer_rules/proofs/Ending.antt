@@ -34,7 +34,7 @@ use Rattle.swap_rules.proofs.Growth.{opened-more}
 use Rattle.swap_rules.proofs.Machines.{own_known}
 use Rattle.swap_rules.proofs.Prefixes.{from_flat_map, split, begins_height, list_any-more, in_any, none_called}
 use Rattle.swap_rules.proofs.Words.{and_three, and_five, enters, leaves, pick_call-act}
-use Rattle.answer_rules.specs.Finished.{greatest_expiry, is_shut, is_finished, are_finished, ContinuesWithoutParty}
+use Rattle.answer_rules.specs.Finished.{greatest_expiry, is_shut, is_arc_finished, are_finished, ContinuesWithoutParty}
 use Rattle.answer_rules.specs.Laws.{FinishedStays}
 use Rattle.answer_rules.proofs.UsefulKinds.{in_when, to_when, Kind, InPublishes, InUnlocks, InClaims, InRefunds, kind, is_useful, unlocked, in_unlocks, free_before}
 
@@ -167,15 +167,15 @@ module _ (d : Deal) (v a : ℕ) (k h : List Entry) (lk : IsLegal d a k) (lh : Is
 -- The arcs of a party.
 module _ (d : Deal) (v : ℕ) (w : Wallet) (kept : ℕ → Option Hashkey) (k h : Histories) (acc : IsAccepted d) (lk : IsLegalBook d k) (lh : IsLegalBook d h)
     (fin : are_finished d k v ≡ true) (on : ContinuesWithoutParty v k h) where
-  abbrev fins : (list_all (is_finished d k) (leaving d.graph v) ≡ true) × (list_all (is_finished d k) (entering d.graph v) ≡ true)
-  fins = and_parts (list_all (is_finished d k) (leaving d.graph v)) (list_all (is_finished d k) (entering d.graph v)) fin
+  abbrev fins : (list_all (is_arc_finished d k) (leaving d.graph v) ≡ true) × (list_all (is_arc_finished d k) (entering d.graph v) ≡ true)
+  fins = and_parts (list_all (is_arc_finished d k) (leaving d.graph v)) (list_all (is_arc_finished d k) (entering d.graph v)) fin
 
   -- why an arc is finished
   pub data Why (a : ℕ) : Type 0 where
     IsSettled : is_some (settled (history k a)) ≡ true → Why a
     IsShut : is_none (published (history k a)) ≡ true → times.opening_deadline d.start d.delta d.bound < height (history k a) → Why a
 
-  why : (a : ℕ) → is_finished d k a ≡ true → Why a
+  why : (a : ℕ) → is_arc_finished d k a ≡ true → Why a
   why a e = go (is_some (settled (history k a))) refl e
     where
       go : (b : Bool) → is_some (settled (history k a)) ≡ b → (b || is_shut d k a) ≡ true → Why a
@@ -187,10 +187,10 @@ module _ (d : Deal) (v : ℕ) (w : Wallet) (kept : ℕ → Option Hashkey) (k h 
           IsShut p.0 (ltb-true (times.opening_deadline d.start d.delta d.bound) (height (history k a)) p.1)
 
   why_leaving : (a : ℕ) → IsElement a (leaving d.graph v) → Why a
-  why_leaving a i = why a (list_all-in (is_finished d k) (leaving d.graph v) a fins.0 i)
+  why_leaving a i = why a (list_all-in (is_arc_finished d k) (leaving d.graph v) a fins.0 i)
 
   why_entering : (a : ℕ) → IsElement a (entering d.graph v) → Why a
-  why_entering a i = why a (list_all-in (is_finished d k) (entering d.graph v) a fins.1 i)
+  why_entering a i = why a (list_all-in (is_arc_finished d k) (entering d.graph v) a fins.1 i)
 
   legal_k : (a : ℕ) → a < length d.graph.arcs → IsLegal d a (history k a)
   legal_k a l = lk.legal a (rw lk.one_each l)

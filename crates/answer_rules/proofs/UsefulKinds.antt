@@ -200,7 +200,7 @@ module _ (d : Deal) (v : ℕ) (k h : Histories) (i : ℕ)
       (and_both (leads d v i) (is_none (first_key h v i)) q.0 (none_presented q.1))
       (not_more (list_all (low k) (entering d.graph v)) (list_all (low h) (entering d.graph v)) low_before p.1)
 
-  -- so what is free was free
+  -- a lock that is free was free before
   pub free_before : is_withheld d v h i ≡ false → is_withheld d v k i ≡ false
   free_before e = go (is_withheld d v k i) refl
     where

@@ -23,12 +23,12 @@ is_shut d k a =
     && nat_lt (greatest_expiry d a) (height (history k a))
 
 -- arc a is finished: its contract is settled, or can't be entered any more
-abbrev pub is_finished : Deal → Histories → ℕ → Bool
-is_finished d k a = is_some (settled (history k a)) || is_shut d k a
+abbrev pub is_arc_finished : Deal → Histories → ℕ → Bool
+is_arc_finished d k a = is_some (settled (history k a)) || is_shut d k a
 
 -- each arc that leaves or enters v is finished
 abbrev pub are_finished : Deal → Histories → ℕ → Bool
-are_finished d k v = list_all (is_finished d k) (leaving d.graph v) && list_all (is_finished d k) (entering d.graph v)
+are_finished d k v = list_all (is_arc_finished d k) (leaving d.graph v) && list_all (is_arc_finished d k) (entering d.graph v)
 
 -- each history goes on as it likes, without calls of v
 abbrev pub ContinuesWithoutParty : ℕ → Histories → Histories → Type 0

@@ -27,9 +27,10 @@ abbrev pub height_or : Option ℕ → ℕ → ℕ
 height_or (Some n) m = n
 height_or None m = m
 
--- The last height at which v's call on arc a is on time: delta above that from which its rule asks
--- for it. Where the rule isn't enabled over what is known, as for an unlock whose hashkey was kept
--- and of which the ledgers tell nothing, it is delta above that from which v is ready.
+-- The last height at which v's call on arc a is on time: delta above the height from which the
+-- call's rule asks for it. Where what is known doesn't enable the rule, it is delta above the
+-- height from which v is ready. An unlock can be such a call: its hashkey was kept, and the ledgers
+-- tell nothing of it.
 abbrev pub last_on_time : Deal → Histories → ℕ → ℕ → Call → ℕ
 last_on_time d k v a c = height_or (asked_height d k v a c) (ready_height d k v) + d.delta
 

@@ -6,7 +6,7 @@ ghost use Rattle.swap_digraph.specs.Deal.{IsWellSized};
 ghost use Rattle.ledger_core.specs.Book.{history};
 ghost use Rattle.ledger_core.specs.History.{height, published as published_in, settled};
 ghost use Rattle.history_index.specs.Indexes.{all_entries, AreIndexes};
-ghost use Rattle.answer_rules.specs.Finished.{are_finished, is_finished, is_shut, greatest_expiry};
+ghost use Rattle.answer_rules.specs.Finished.{are_finished, is_arc_finished, is_shut, greatest_expiry};
 
 use due_calls::{expiry, published};
 use history_index::Index;
@@ -48,7 +48,7 @@ fn is_published(deal: &Deal, known: &[Index], arc: ArcId) -> bool
 }
 
 /// Whether the arc's ledger stands above the height.
-fn stands_above(known: &[Index], arc: ArcId, least: u64) -> bool
+fn has_passed_height(known: &[Index], arc: ArcId, least: u64) -> bool
     ensures exact { result ≡ nat_lt least (height (history (all_entries known.now) arc)) }
     ensures within { result ≡ true → arc < length known.now }
 {
@@ -66,17 +66,17 @@ fn is_shut(deal: &Deal, known: &[Index], arc: ArcId) -> bool
     ensures { result ≡ is_shut deal.now (all_entries known.now) arc }
 {
     let opens = opening_deadline(deal.start, deal.delta, deal.bound);
-    if is_published(deal, known, arc) || !stands_above(known, arc, opens) {
+    if is_published(deal, known, arc) || !has_passed_height(known, arc, opens) {
         return false;
     }
-    stands_above(known, arc, greatest_expiry(deal, arc))
+    has_passed_height(known, arc, greatest_expiry(deal, arc))
 }
 
 /// Whether the arc's contract is settled, or can't be entered any more.
-fn is_finished(deal: &Deal, known: &[Index], arc: ArcId) -> bool
+fn is_arc_finished(deal: &Deal, known: &[Index], arc: ArcId) -> bool
     requires sized { IsWellSized deal.now }
     requires known { AreIndexes deal.now known.now }
-    ensures { result ≡ is_finished deal.now (all_entries known.now) arc }
+    ensures { result ≡ is_arc_finished deal.now (all_entries known.now) arc }
 {
     is_settled(known, arc) || is_shut(deal, known, arc)
 }
@@ -85,9 +85,9 @@ fn is_finished(deal: &Deal, known: &[Index], arc: ArcId) -> bool
 fn all_finished(deal: &Deal, known: &[Index], arcs: &[ArcId]) -> bool
     requires sized { IsWellSized deal.now }
     requires known { AreIndexes deal.now known.now }
-    ensures { result ≡ list_all (is_finished deal.now (all_entries known.now)) arcs.now }
+    ensures { result ≡ list_all (is_arc_finished deal.now (all_entries known.now)) arcs.now }
 {
-    arcs.iter().all(|arc| is_finished(deal, known, *arc))
+    arcs.iter().all(|arc| is_arc_finished(deal, known, *arc))
 }
 
 /// Whether each arc that leaves or enters the party is finished.

@@ -14,17 +14,17 @@ use Rattle.command_input.specs.declared.fault.InputFault.TheVariants as stopped
 use Rattle.command_input.specs.declared.status.Status.{Status}
 use Rattle.command_input.specs.declared.status.Status.TheVariants.{Done, Named, WrongWords, Refused, ReadFault, WriteFault, NoMemory, TooLong}
 use Rattle.command_input.specs.Faults.{unread}
-use Rattle.command_input.specs.Input.{At, Ends, HasStopped, desk, fresh}
+use Rattle.command_input.specs.Input.{InputProgress, Ends, HasStopped, desk, fresh}
 use Rattle.command_input.specs.Streams.{streams}
 use Rattle.audit_command.proofs.Ends.{is_consumed, too_long}
 use Rattle.command_input.specs.Written.{StatusWrites, Written}
-use Rattle.audit_command.specs.Output.{audit_output, by_text, judged, story_output, input_story, told}
+use Rattle.audit_command.specs.Output.{audit_output, by_text, judged, story_output, input_story, written_story}
 use Rattle.audit_command.specs.Promised.{IsSoundAudit}
 use Rattle.audit_command.specs.Reading.{IsStoryRefusal, IsStory}
 use Rattle.audit_command.specs.Says.{HasAuditAnswer, HasAuditOutput, AuditSays}
 
 -- an answer to an input that was read
-answered : (P : List ℕ → Type 0) (a b : Option (List ℕ)) (n m : ℕ) (now : At) (output : Result Written Refusal)
+answered : (P : List ℕ → Type 0) (a b : Option (List ℕ)) (n m : ℕ) (now : InputProgress) (output : Result Written Refusal)
     (k : Ends P (desk a n fresh) (desk b m now)) → audit_output k.bytes ≡ output → HasAuditAnswer a b output
 answered P a b n m now output k e = record {
   input = k.bytes;
@@ -37,9 +37,9 @@ answered P a b n m now output k e = record {
 -- no story
 refused_input : (input : List ℕ) (refusal : Refusal) → input_story input ≡ Err refusal → audit_output input ≡ Err refusal
 unfolding audit_output
-refused_input input refusal e = ap (λ (r : Result Story Refusal). r >>= told) e
+refused_input input refusal e = ap (λ (r : Result Story Refusal). r >>= written_story) e
 
-pub says_unread : (a b : Option (List ℕ)) (n m : ℕ) (now : At) (taken : Option (List ℕ)) (p : ℕ) (f : InputFault Refusal)
+pub says_unread : (a b : Option (List ℕ)) (n m : ℕ) (now : InputProgress) (taken : Option (List ℕ)) (p : ℕ) (f : InputFault Refusal)
     → HasStopped IsStoryRefusal (desk a n fresh) (desk b m now) f → AuditSays (streams a n taken p) (streams b m taken p) (unread f)
 says_unread a b n m now taken p (stopped.Refused refusal) k =
     (answered (λ input. IsStoryRefusal input refusal) a b n m now (Err refusal) k (refused_input k.bytes refusal k.told), Keeps-refl taken)
@@ -48,18 +48,18 @@ says_unread a b n m now taken p stopped.TooLong k = (too_long a b n m now k.1, K
 says_unread a b n m now taken p stopped.NoMemory k = inl (Keeps-refl taken, is_consumed a b n m now k.1)
 
 -- a story
-module _ (a b : Option (List ℕ)) (n m : ℕ) (now : At) (t : Story) (k : Ends (IsStory t) (desk a n fresh) (desk b m now)) where
+module _ (a b : Option (List ℕ)) (n m : ℕ) (now : InputProgress) (t : Story) (k : Ends (IsStory t) (desk a n fresh) (desk b m now)) where
   -- what is read is well formed
   pub is_formed : IsWellFormed t.job.deal t.book
   is_formed = (text_is_whole header_read k.bytes t k.told).whole.stated.formed
 
-  of_story : audit_output k.bytes ≡ told t
+  of_story : audit_output k.bytes ≡ written_story t
   unfolding audit_output input_story
-  of_story = ap (λ (r : Result Story TranscriptReason). by_text r >>= told) k.told
+  of_story = ap (λ (r : Result Story TranscriptReason). by_text r >>= written_story) k.told
 
   pub says_refused : (taken : Option (List ℕ)) (p : ℕ) (refusal : Refusal) → judged t ≡ Err refusal
       → AuditSays (streams a n taken p) (streams b m taken p) (Refused refusal.reason refusal.names)
-  unfolding told
+  unfolding written_story
   says_refused taken p refusal e = (
     answered (IsStory t) a b n m now (Err refusal) k
         (of_story ∙ ap (λ (r : Result Report Refusal). r >>= λ x. Ok (story_output t x)) e),
@@ -67,7 +67,7 @@ module _ (a b : Option (List ℕ)) (n m : ℕ) (now : At) (t : Story) (k : Ends 
   )
 
   output_is : (P : Written → Type 0) (r : Report) → IsTranscriptJob t.job → judged t ≡ Ok r → IsSoundAudit t r → P (story_output t r) → HasAuditOutput P a b
-  unfolding told answered
+  unfolding written_story answered
   output_is P r job e sound w = record {
     output = story_output t r;
     read = answered (IsStory t) a b n m now (Ok (story_output t r)) k

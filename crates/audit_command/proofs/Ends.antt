@@ -11,19 +11,19 @@ use Rattle.transcript_reader.specs.Reading.{story_at_end, job_story}
 use Rattle.command_input.specs.Faults.{retold}
 use Rattle.command_input.specs.declared.fault.InputFault.{InputFault}
 use Rattle.command_input.specs.declared.fault.InputFault.TheVariants.{Refused, ReadFault, TooLong, NoMemory}
-use Rattle.command_input.specs.Input.{At, Desk, Ends, HasStopped, TookPart, IsTooLong, desk, fresh, limit}
+use Rattle.command_input.specs.Input.{InputProgress, Desk, Ends, HasStopped, TookPart, IsTooLong, desk, fresh, limit}
 use Rattle.command_input.proofs.Streams.{no_memory_after}
 use Rattle.audit_command.specs.Output.{by_text, to_refusal, input_story}
 use Rattle.audit_command.specs.Reading.{Concludes, IsStoryRefusal, IsBad, IsReadByReader, IsStory}
 
 -- a part was read
-pub is_consumed : (a b : Option (List ℕ)) (n m : ℕ) (now : At) → TookPart (desk a n fresh) (desk b m now) → ConsumesAtMost a b limit
+pub is_consumed : (a b : Option (List ℕ)) (n m : ℕ) (now : InputProgress) → TookPart (desk a n fresh) (desk b m now) → ConsumesAtMost a b limit
 is_consumed a b n m now t = (t.0.0, omega (arith, t.0.1.counted, t.1), t.0.1.consumed)
 
-pub too_long : (a b : Option (List ℕ)) (n m : ℕ) (now : At) → IsTooLong (desk a n fresh) (desk b m now) → ConsumesSome a b (limit + 1)
+pub too_long : (a b : Option (List ℕ)) (n m : ℕ) (now : InputProgress) → IsTooLong (desk a n fresh) (desk b m now) → ConsumesSome a b (limit + 1)
 too_long a b n m now t = (t.0.0, omega (arith, t.0.1.counted, t.1), t.0.1.consumed)
 
-pub all_consumed : (P : List ℕ → Type 0) (a b : Option (List ℕ)) (n m : ℕ) (now : At) → Ends P (desk a n fresh) (desk b m now) → ConsumesAtMost a b limit
+pub all_consumed : (P : List ℕ → Type 0) (a b : Option (List ℕ)) (n m : ℕ) (now : InputProgress) → Ends P (desk a n fresh) (desk b m now) → ConsumesAtMost a b limit
 all_consumed P a b n m now k = (k.bytes, omega (arith, k.stands.took.counted, k.stands.fits.within), k.stands.took.consumed)
 
 -- a reason as it is told

@@ -12,7 +12,7 @@ use Rattle.transcript_reader.specs.Stages.{Progress, no_lines, with_line}
 use Rattle.transcript_reader.specs.Reading.{ReadsTranscriptLine, parts_read, transcript_read}
 use Rattle.transcript_reader.proofs.Steps.{bad_reads, line_on}
 use Rattle.command_input.specs.Faults.{of_offer}
-use Rattle.command_input.specs.Input.{At, Desk, Ends, GivesPart, IsFed, IsRest, Stands, Stops, desk, fresh}
+use Rattle.command_input.specs.Input.{InputProgress, Desk, Ends, GivesPart, IsFed, IsRest, Stands, Stops, desk, fresh}
 use Rattle.command_input.proofs.Ahead.{stands_none, stands_on}
 use Rattle.command_input.proofs.Streams.{can_come, fits_fresh, no_memory_after}
 use Rattle.audit_command.specs.Reading.{IsBad, IsReadByReader}
@@ -53,8 +53,8 @@ led_fresh left n p q = record {
   leads = λ rest. sym (ap (λ (x : Progress). parts_read header_read x (separated_parts 10 rest)) q);
 }
 
-pub led_first : (left : Option (List ℕ)) (n : ℕ) (s : At) (p : Progress) → s ≡ fresh → p ≡ no_lines → Led (desk left n fresh) (desk left n s) p
-led_first left n s p e q = subst (λ (x : At). Led (desk left n fresh) (desk left n x) p) (sym e) (led_fresh left n p q)
+pub led_first : (left : Option (List ℕ)) (n : ℕ) (s : InputProgress) (p : Progress) → s ≡ fresh → p ≡ no_lines → Led (desk left n fresh) (desk left n s) p
+led_first left n s p e q = subst (λ (x : InputProgress). Led (desk left n fresh) (desk left n x) p) (sym e) (led_fresh left n p q)
 
 -- the next line, and what comes after it
 stepped : (first s t : Desk) (p : Progress) (k : Led first s p) (l : IsFed s t) (rest : List ℕ)

@@ -56,9 +56,9 @@ abbrev pub story_output : Story → Report → Written
 story_output t r = record { text = report t.job t.book r; found = not (length r.findings == 0) }
 
 -- what is written of a job and its book
-unfoldable pub told : Story → Result Written Refusal
-told t = judged t >>= λ r. Ok (story_output t r)
+unfoldable pub written_story : Story → Result Written Refusal
+written_story t = judged t >>= λ r. Ok (story_output t r)
 
 -- what an audit writes for an input, or the first reason why it is refused
 unfoldable pub audit_output : List ℕ → Result Written Refusal
-audit_output input = input_story input >>= told
+audit_output input = input_story input >>= written_story

@@ -17,7 +17,7 @@ use Rattle.command_input.specs.Written.{Written}
 abbrev pub story_report : Story → Report
 story_report t = build_report t.job.deal t.job.conforming t.book
 
--- What an audit promises of a job and its book, of which r is the report.
+-- What an audit that reports r promises of a job and its book.
 pub record IsSoundAudit (t : Story) (r : Report) : Type 0 where
   pub report : r ≡ story_report t
   pub accepted : IsAccepted t.job.deal

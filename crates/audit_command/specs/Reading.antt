@@ -15,7 +15,7 @@ use Rattle.audit_command.specs.Output.{by_text, input_story}
 abbrev pub IsBad : List ℕ → TranscriptReason → Type 0
 IsBad bytes reason = transcript_read header_read bytes ≡ Err reason
 
--- the same as it is told
+-- what is said against the bytes of a transcript, as the audit tells it
 abbrev pub IsStoryRefusal : List ℕ → Refusal → Type 0
 IsStoryRefusal bytes refusal = input_story bytes ≡ Err refusal
 

@@ -36,7 +36,7 @@ use Rattle.offer_moves.specs.Moves.{parse_unlock, parse_wait}
 use Rattle.offer_moves.specs.Placed.{adjacent, deviating}
 use Rattle.offer_events.specs.declared.raw.RawEvent.{RawEvent}
 use Rattle.offer_events.specs.declared.raw.RawEvent.TheVariants as raw_events
-use Rattle.offer_events.specs.Event.{asked, checked_event, conforming_crash, parse_event, event_of_act, event_of_call, event_of_crash, event_of_look}
+use Rattle.offer_events.specs.Event.{asked_event, checked_event, conforming_crash, parse_event, event_of_act, event_of_call, event_of_crash, event_of_look}
 use Rattle.offer_events.specs.Event.{event_of_tick, outside_race, permitted}
 use Rattle.offer_events.specs.Reading.{raw_event}
 use Rattle.offer_header.specs.declared.limits.Acting.{Acting}
@@ -278,8 +278,8 @@ checked_has job line (raw_events.Act name) e k = act_has job line name e k
 checked_has job line (raw_events.Call name raw) e k = made_has job line name raw e k
 checked_has job line (raw_events.Crash name after image) e k = crash_has job line name after image e k
 
-asked_has : (job : Job) (line : ℕ) (raw : RawEvent) (e : Event) → asked job line raw ≡ Ok e → EventHas e
-unfolding asked
+asked_has : (job : Job) (line : ℕ) (raw : RawEvent) (e : Event) → asked_event job line raw ≡ Ok e → EventHas e
+unfolding asked_event
 asked_has job line raw =
     onward (checked_event job line raw) _ EventHas (λ event c.
     onward (outside_race line job.purpose) _ EventHas (λ u o.

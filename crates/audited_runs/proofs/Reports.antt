@@ -11,7 +11,7 @@ use Rattle.swap_auditor.specs.Audit.{audited}
 use Rattle.report_text.specs.Report.{report}
 use Rattle.transcript_lines.specs.Lines.{transcript}
 use Rattle.transcript_reader.specs.Reading.{Story}
-use Rattle.audit_command.specs.Output.{audit_output, by_replies, by_text, judged, story, input_story, told, story_output}
+use Rattle.audit_command.specs.Output.{audit_output, by_replies, by_text, judged, story, input_story, written_story, story_output}
 use Rattle.command_input.specs.Written.{Written}
 use Rattle.read_back.specs.Headers.{audited_job}
 use Rattle.audited_runs.specs.Transcripts.{HasTranscript, SameReport, reported_book}
@@ -27,8 +27,8 @@ report_is job b k =
     ap (λ (r : Result (Unit {0}) BadReply). r >>= λ _. Ok (build_report job.deal job.conforming b)) (book_stands job.deal b k.legal)
 
 told_is : (job : Job) (b : Histories) → HasTranscript job b
-    → told (story (audited_job job) b) ≡ Ok (story_output (story (audited_job job) b) (build_report job.deal job.conforming b))
-unfolding told judged
+    → written_story (story (audited_job job) b) ≡ Ok (story_output (story (audited_job job) b) (build_report job.deal job.conforming b))
+unfolding written_story judged
 told_is job b k =
     ap (λ (r : Result Report BadReply). by_replies r >>= λ x. Ok (story_output (story (audited_job job) b) x)) (report_is job b k)
 
@@ -40,7 +40,7 @@ same_text job b r = refl
 pub same_report : SameReport
 unfolding audit_output
 same_report job b k =
-    ap (λ (s : Result Story Refusal). s >>= told) (story_is job b k)
+    ap (λ (s : Result Story Refusal). s >>= written_story) (story_is job b k)
     ∙ told_is job b k
     ∙ ap (λ (t : List ℕ). let w : Written = record { text = t; found = (reported_book job b).found } in Ok w)
     (same_text job b (build_report job.deal job.conforming b))

@@ -16,7 +16,7 @@ use Rattle.ledger_core.specs.declared.entry.What.TheVariants.{Call as Made, Tick
 use Rattle.ledger_core.specs.declared.entry.Entry.{Entry}
 use Rattle.ledger_core.specs.History.{accepted, accepted_call}
 use Rattle.ledger_core.specs.Book.{Histories}
-use Rattle.deviators.specs.Rules.{around, greedy, call_keys, keys_known, replayer, silent, spoiled_terms, spoiler, make_unlock}
+use Rattle.deviators.specs.Rules.{item_in_turn, greedy, call_keys, keys_known, replayer, silent, spoiled_terms, spoiler, make_unlock}
 use Rattle.deviators.specs.Program.{program_rule}
 use Rattle.typed_books.specs.Typed.{IsDigest}
 use Rattle.audited_runs.specs.Digests.{StatesDigests}
@@ -24,7 +24,7 @@ use Rattle.audited_runs.specs.RunDigests.{ProgramKeepsDigests}
 use Rattle.audited_runs.proofs.Hashes.{May, KeyHas}
 use Rattle.audited_runs.proofs.Calls.{AnswerHas, BookHas, EntryHas, Has, at_or}
 
-around_has : {A : Type 0} (P : A → Type 0) (xs : List A) (t : ℕ) → All P xs → May P (around xs t)
+around_has : {A : Type 0} (P : A → Type 0) (xs : List A) (t : ℕ) → All P xs → May P (item_in_turn xs t)
 around_has P [] t k = tt
 around_has P (x ∷ xs) t k = at_or P (x ∷ xs) (t % length (x ∷ xs)) x (All-head P x xs k) k
 
@@ -68,10 +68,10 @@ by_test false x y h k = k
 program_has : (name : List ℕ) (d : Deal) (p t : ℕ) (b : Histories) → All IsDigest d.hashlocks → BookHas b → May AnswerHas (program_rule name d p t b)
 program_has name d p t b locks k =
     by_test (bytes_eq (codes "silent") name) (silent d p t b) _ tt
-    (by_test (bytes_eq (codes "greedy") name) (greedy d p t b) _ (claims (around (entering d.graph p) t))
+    (by_test (bytes_eq (codes "greedy") name) (greedy d p t b) _ (claims (item_in_turn (entering d.graph p) t))
     (by_test (bytes_eq (codes "replayer") name) (replayer d p t b) _
-    (unlocks (around (entering d.graph p) t) (around (keys_known b) t) (around_has KeyHas (keys_known b) t (all_keys b k)))
-    (by_test (bytes_eq (codes "spoiler") name) (spoiler d p t b) None (publishes d (around (leaving d.graph p) t) locks) tt)))
+    (unlocks (item_in_turn (entering d.graph p) t) (item_in_turn (keys_known b) t) (around_has KeyHas (keys_known b) t (all_keys b k)))
+    (by_test (bytes_eq (codes "spoiler") name) (spoiler d p t b) None (publishes d (item_in_turn (leaving d.graph p) t) locks) tt)))
 
 pub program_keeps_digests : ProgramKeepsDigests
 program_keeps_digests name d p t b x locks k e =

@@ -26,7 +26,7 @@ use Rattle.swap_job.specs.declared.job.Role.{Role}
 use Rattle.swap_job.specs.declared.job.Role.TheVariants.{Conforming, Manual, Script, Strategy}
 use Rattle.swap_job.specs.declared.moves.Move.{Move}
 use Rattle.swap_job.specs.Resolved.{resolved}
-use Rattle.deviators.specs.Script.{first_call, is_finished, is_wait, moves_left, next_call, past_waits, without_first}
+use Rattle.deviators.specs.Script.{first_call, is_wait_done, is_wait, moves_left, next_call, past_waits, without_first}
 use Rattle.swap_run.specs.Run.{Cast, Notes, Plan, Question, State, act, role_act, after_question, after_tick, after_turn, answered_call, ask, conforms}
 use Rattle.swap_run.specs.Run.{first_plan, follow, is_party_answer, is_clock_full_reply, is_planned, look, make, next_action, no_histories, no_notes}
 use Rattle.swap_run.specs.Run.{state_notes, party_plan, question, plan_with_ledger, plans_seen, party_role, run, continued_run, signed_through_call, start, step}
@@ -111,7 +111,7 @@ after_has signed c h k =
 
 past_has : (k : Histories) (moves : List Move) → All MoveHas moves → All MoveHas (past_waits k moves)
 past_has k [] h = All-nil MoveHas
-past_has k (mv ∷ moves) h = by (is_finished k mv) (past_has k moves (All-tail MoveHas mv moves h))
+past_has k (mv ∷ moves) h = by (is_wait_done k mv) (past_has k moves (All-tail MoveHas mv moves h))
   where
     by : (t : Bool) → All MoveHas (past_waits k moves) → All MoveHas (cond t (past_waits k moves) (mv ∷ moves))
     by true rest = rest

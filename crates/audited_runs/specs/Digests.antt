@@ -21,10 +21,10 @@ abbrev pub StatesDigests : What → Type 0
 StatesDigests (Made c) = HasDigests c
 StatesDigests (Tick k) = Unit {0}
 
--- and so do those of every call of the book
+-- every call of the book states digests of these lengths
 abbrev pub HoldsDigests : Histories → Type 0
 HoldsDigests b = (a : ℕ) → a < length b → All (λ e. StatesDigests e.what) (history b a)
 
--- Every entry of such a book is one of the program's own types, where the book is legal.
+-- Every entry of a legal book that holds digests is one of the program's own types.
 abbrev pub LegalIsTyped : Type 0
 LegalIsTyped = (d : Deal) (b : Histories) → IsWellSized d → IsLegalBook d b → HoldsDigests b → (a : ℕ) → a < length b → All IsTyped (history b a)

@@ -37,16 +37,16 @@ RacesAreAudited =
     → AsPromised has (by_rule rule) chance (OfJob (Race ticks true)) input output → length output.text ≤ limit
     → IsAudited has chance (OfJob (Race ticks false)) input output
 
--- So wherever the program is done with a run, whatever is found, its transcript is audited as the
--- run is reported.
+-- Wherever the program is done with a run, whatever is found, its transcript is audited as the run
+-- is reported.
 abbrev pub ProgramRunsAreAudited : Type 0
 ProgramRunsAreAudited =
     (words : List (List ℕ)) (before after : Streams) (found : Bool)
     (done : IsDone (given_strategies is_known (by_rule program_rule)) words before after found) → done.read.command ≡ OfJob (Run true)
     → length done.output.text ≤ limit → IsAudited is_known done.chance (OfJob (Run false)) done.read.input done.output
 
--- When an audit of such a transcript ends, it wrote the text that the run writes, and it tells of a
--- finding where the run did.
+-- When an audit of a run's transcript ends, it wrote the text that the run writes, and it tells of
+-- a finding where the run did.
 abbrev pub AuditsTellTheRun : Type 0
 AuditsTellTheRun =
     (words others : List (List ℕ)) (before after first last : Streams) (found named : Bool)
@@ -55,7 +55,8 @@ AuditsTellTheRun =
     → told.read.input ≡ done.output.text
     → (output_given_chance is_known done.chance (OfJob (Run false)) done.read.input ≡ Ok told.output) × (named ≡ found)
 
--- The same of a race.
+-- Wherever the program is done with a race, whatever is found, its transcript is audited as the
+-- race is reported.
 abbrev pub ProgramRacesAreAudited : Type 0
 ProgramRacesAreAudited =
     (words : List (List ℕ)) (before after : Streams) (found : Bool) (ticks : ℕ)

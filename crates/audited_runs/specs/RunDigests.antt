@@ -28,8 +28,8 @@ KeepsDigests rule =
 abbrev pub ProgramKeepsDigests : Type 0
 ProgramKeepsDigests = KeepsDigests program_rule
 
--- By such a rule every call of the book holds digests to which the run of an input comes: what is
--- read of it holds them, and what is made of seeds is hashed.
+-- Where strategies answer by a rule that keeps digests, every call in the book of an input's run
+-- holds digests: what is read of the input holds them, and what is made of seeds is hashed.
 abbrev pub RunsHoldDigests : Type 0
 RunsHoldDigests =
     (rule : NamedStrategyRule) (has : List ℕ → Bool) (answers : Answers) (input : List ℕ) (job : Job) (events : List Event) → KeepsDigests rule

@@ -14,8 +14,8 @@ use Rattle.audit_command.specs.Output.{audit_output}
 use Rattle.command_input.specs.Written.{Written}
 use Rattle.audited_runs.specs.Digests.{HoldsDigests}
 
--- A job and its book, of which a transcript tells: the job can be shown, the book is legal, its
--- calls hold digests, and the transcript isn't too long.
+-- A transcript can tell of a job and its book: the job can be shown, the book is legal, its calls
+-- hold digests, and the transcript isn't too long.
 pub record HasTranscript (job : Job) (b : Histories) : Type 0 where
   pub showable : IsShowable job
   pub legal : IsLegalBook job.deal b
@@ -33,7 +33,7 @@ reported_book job b = record {
   found = not (length (build_report job.deal job.conforming b).findings == 0);
 }
 
--- And what an audit of it writes is, byte for byte, the report of the job and the book that were
--- written.
+-- What an audit of a job's transcript writes is, byte for byte, the report of the job and the book
+-- that were written.
 abbrev pub SameReport : Type 0
 SameReport = (job : Job) (b : Histories) → HasTranscript job b → audit_output (transcript job b) ≡ Ok (reported_book job b)

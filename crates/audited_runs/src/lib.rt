@@ -26,12 +26,12 @@ pub fn races_are_audited()
     ensures { RacesAreAudited }
 {}
 
-/// So wherever the program is done with a run, its transcript is audited as the run is reported.
+/// Wherever the program is done with a run, its transcript is audited as the run is reported.
 pub fn program_runs_are_audited()
     ensures { ProgramRunsAreAudited }
 {}
 
-/// And wherever it is done with an audit of such a transcript, it wrote what the run writes.
+/// Wherever the program is done with an audit of a run's transcript, it wrote what the run writes.
 pub fn audits_tell_the_run()
     ensures { AuditsTellTheRun }
 {}
@@ -41,7 +41,8 @@ pub fn program_races_are_audited()
     ensures { ProgramRacesAreAudited }
 {}
 
-/// And wherever it is done with an audit of such a transcript, it wrote what the race writes.
+/// Wherever the program is done with an audit of a race's transcript, it wrote what the race
+/// writes.
 pub fn audits_tell_the_race()
     ensures { AuditsTellTheRace }
 {}

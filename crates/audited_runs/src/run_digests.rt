@@ -8,7 +8,8 @@ pub fn program_keeps_digests()
     ensures { ProgramKeepsDigests }
 {}
 
-/// Every call of a run's book holds digests, where strategies answer by such a rule.
+/// Every call of a run's book holds digests, where strategies answer by a rule whose calls hold
+/// digests.
 pub fn runs_hold_digests()
     ensures { RunsHoldDigests }
 {}

@@ -36,7 +36,7 @@ fn named_value(
     Ok(Value::Object(fields))
 }
 
-/// Such an object for each of the parties, as a list.
+/// A list with an object for each of the parties, whose one field is the party's name.
 pub(crate) fn named_values(
     alloc: Global,
     field: &str,

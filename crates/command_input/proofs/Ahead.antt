@@ -5,7 +5,7 @@ use Rattle.std.proofs.Common.{Result, Err, drop, ◌↔◌, refl, sym, ap, ap₂
 use Rattle.std.proofs.lemmas.Bool.{and_parts}
 use Rattle.std.proofs.lemmas.List.{length-drop}
 use Rattle.swap_io.specs.Causes.{Rose}
-use Rattle.swap_io.specs.Lines.{IsNext, IsReadingOver, Reading, TookSome, line_end_bytes, feeds, lacks_feed}
+use Rattle.swap_io.specs.Lines.{IsNext, IsReadingFinished, Reading, TookSome, line_end_bytes, feeds, lacks_feed}
 use Rattle.swap_io.specs.declared.fault.LineFault.{LineFault}
 use Rattle.swap_io.specs.declared.fault.LineFault.TheVariants as line
 use Rattle.swap_io.specs.declared.line_end.LineEnd.{LineEnd}
@@ -18,7 +18,7 @@ use Rattle.command_input.specs.Lines.{collect_lines, with_first, filled_lines, i
 use Rattle.command_input.proofs.Filled.{one_more}
 use Rattle.swap_io.specs.declared.fault.DrainFault.{DrainFault}
 use Rattle.swap_io.specs.declared.fault.DrainFault.TheVariants as drained
-use Rattle.command_input.specs.Input.{At, Breaks, CanBeLeft, Desk, Faulted, Fits, GivesNoLine, HasFailed, HasNoNewFault, IsFed, IsLast, IsLine, TookPart, IsRest, IsTooLong}
+use Rattle.command_input.specs.Input.{InputProgress, Breaks, CanBeLeft, Desk, Faulted, Fits, GivesNoLine, HasFailed, HasNoNewFault, IsFed, IsLast, IsLine, TookPart, IsRest, IsTooLong}
 use Rattle.command_input.specs.Input.{ReadsLine, ReadsNone, Stands, TookBytes, ahead, desk, limit, past_empty, to_go}
 
 not_feed : (t : Bool) → not t ≡ true → t ≡ false
@@ -107,7 +107,7 @@ next_fails s t line.NoMemory result is took long most lim rose calm = (
   is_part s t took (other_fault line.NoMemory line.TooLong result t.at.reading.limit t.at.reading.taken (λ e. absurd (cc e)) is long) lim,
 )
 
--- the same of what is dropped
+-- a fault while the rest of the input is dropped is what Breaks says of it
 pub drain_breaks : {T : Type 0} (s t : Desk) (e : DrainFault) (result : Result T DrainFault) → result ≡ Err e
     → TookSome s.left t.left s.at.reading t.at.reading → ((result ≡ Err drained.TooLong) ↔ (t.at.reading.limit < t.at.reading.taken))
     → t.at.reading.taken ≤ t.at.reading.limit + 1 → s.at.reading.limit ≡ limit → (result ≡ Err drained.ReadFault → HasFailed s t)
@@ -169,7 +169,7 @@ reads_none s t line p calm within number over = record {
 }
 
 -- how much may still come gets less
-pub fewer : (a b : Option (List ℕ)) (s t : At) (line : List ℕ) (end : LineEnd) → s.over ≡ false → s.reading.limit ≡ limit → t.reading.taken ≤ limit
+pub fewer : (a b : Option (List ℕ)) (s t : InputProgress) (line : List ℕ) (end : LineEnd) → s.over ≡ false → s.reading.limit ≡ limit → t.reading.taken ≤ limit
     → IsNext a b s.reading t.reading line end → (t.over ≡ true) ⊎ ((t.over ≡ false) × (end ≡ Ended)) → to_go t < to_go s
 fewer a b s t line end going lim within p (inl over) = rw (over, going) (omega arith)
 fewer a b s t line end going lim within p (inr (still, is)) =
@@ -190,7 +190,7 @@ is_fed s t line p calm lim within going still text = record {
   fewer = fewer s.left t.left s.at t.at line Ended going lim within p (inr (still, refl));
 }
 
-rest_at : (s t : Desk) (line bytes : List ℕ) → TookBytes s t bytes → s.at.reading.kept ++ bytes ≡ line ++ t.at.reading.kept → IsReadingOver t.left t.at.reading
+rest_at : (s t : Desk) (line bytes : List ℕ) → TookBytes s t bytes → s.at.reading.kept ++ bytes ≡ line ++ t.at.reading.kept → IsReadingFinished t.left t.at.reading
     → IsTrue (lacks_feed line) → HasNoNewFault s t → t.at.reading.taken ≤ limit → t.at.over ≡ true → t.at.text ≡ line → IsRest s t
 rest_at s t line bytes took parts over one calm within met text = record {
   bytes = bytes;
@@ -339,7 +339,7 @@ past_ahead n [] rest =
 past_ahead n (b ∷ bs) rest = past_one (eqb b 10) n b bs rest refl (past_ahead (n + 1) bs rest)
 
 -- empty lines are passed over
-pub passed_past : (first : Desk) (left : Option (List ℕ)) (faults : ℕ) (s : At) → Passed first (desk left faults s)
+pub passed_past : (first : Desk) (left : Option (List ℕ)) (faults : ℕ) (s : InputProgress) → Passed first (desk left faults s)
     → Passed first (desk left faults (past_empty s))
 passed_past first left faults s p = record {
   bytes = p.bytes;
@@ -358,7 +358,7 @@ still_less : (over : Bool) (n m k : ℕ) → m ≤ k → cond over 0 (n + m) ≤
 still_less true n m k le = omega arith
 still_less false n m k le = omega (arith, le)
 
-pub past_less : (s : At) → to_go (past_empty s) ≤ to_go s
+pub past_less : (s : InputProgress) → to_go (past_empty s) ≤ to_go s
 past_less s = still_less s.over (limit + 2 - s.reading.taken) (length (drop (feeds s.reading.kept) s.reading.kept)) (length s.reading.kept)
     (omega (arith, length-drop (feeds s.reading.kept) s.reading.kept))
 

@@ -14,21 +14,21 @@ use Rattle.command_input.specs.declared.fault.InputFault.TheVariants.{Refused, R
 use Rattle.command_input.specs.declared.status.Status.TheVariants as status
 use Rattle.refusals.specs.declared.refusal.Refusal.{Refusal}
 use Rattle.command_input.specs.Faults.{of_drain, of_line, of_offer, retold, unread}
-use Rattle.command_input.specs.Input.{At, Breaks, CanBeLeft, Desk, Drains, Ends, Faulted, Fits, GivesLine, GivesNoLine}
+use Rattle.command_input.specs.Input.{InputProgress, Breaks, CanBeLeft, Desk, Drains, Ends, Faulted, Fits, GivesLine, GivesNoLine}
 use Rattle.command_input.specs.Input.{HasStopped, HasNoNewFault, IsDrained, IsLast, IsLine}
 use Rattle.command_input.specs.Input.{TookPart, ReadsLineIf, ReadsLine, ReadsNone, Stands, Stops, Tells, ahead, desk, fresh}
 use Rattle.command_input.proofs.Ahead.{faulted_on, line_faults, stands_none, stands_on}
 
 -- bytes may come before the end
-pub can_come : (s : At) (rest : List ℕ) → s.over ≡ false → CanBeLeft s rest
+pub can_come : (s : InputProgress) (rest : List ℕ) → s.over ≡ false → CanBeLeft s rest
 can_come s rest not_over = λ over. absurd (cc (sym not_over ∙ over))
 
 -- before the first line
-pub fits_fresh : (left : Option (List ℕ)) (s : At) → s ≡ fresh → Fits left s
-fits_fresh left s e = subst (λ (t : At). Fits left t) (sym e) (record { within = omega arith; ended = λ over. absurd (cc over) })
+pub fits_fresh : (left : Option (List ℕ)) (s : InputProgress) → s ≡ fresh → Fits left s
+fits_fresh left s e = subst (λ (t : InputProgress). Fits left t) (sym e) (record { within = omega arith; ended = λ over. absurd (cc over) })
 
--- what a walk that has come to y makes of the next line, whose number is given, and then of the
--- lines after it
+-- what a walk in the state y makes of the next line, whose number is given, and then of the lines
+-- after it
 abbrev pub IsStepAt : {A R E : Type 0} → (ℕ → A → List (ℕ × List ℕ) → Result R E) → (ℕ → A → ℕ → List ℕ → Result A E) → ℕ → A → Type 0
 IsStepAt walk next n y = (number : ℕ) (text : List ℕ) (rest : List (ℕ × List ℕ))
     → walk n y ((number, text) ∷ rest) ≡ next n y number text >>= λ z. walk (n + 1) z rest
@@ -171,9 +171,9 @@ line_stops P s t line.ReadFault h = h
 line_stops P s t line.TooLong h = h
 line_stops P s t line.NoMemory h = h
 
-pub first_stops : {R : Type 0} (P : List ℕ → R → Type 0) (left : Option (List ℕ)) (n : ℕ) (s : At) (t : Desk) → s ≡ fresh → (e : LineFault)
+pub first_stops : {R : Type 0} (P : List ℕ → R → Type 0) (left : Option (List ℕ)) (n : ℕ) (s : InputProgress) (t : Desk) → s ≡ fresh → (e : LineFault)
     → GivesNoLine (desk left n s) t e → Stops P (desk left n fresh) t (of_line e)
-first_stops P left n s t first e h = subst (λ (x : At). Stops P (desk left n x) t (of_line e)) first (line_stops P (desk left n s) t e h)
+first_stops P left n s t first e h = subst (λ (x : InputProgress). Stops P (desk left n x) t (of_line e)) first (line_stops P (desk left n s) t e h)
 
 -- What stopped a reading behind what was taken, where what is said of the bytes after it is said of
 -- all.
@@ -191,7 +191,7 @@ stops_on Q P r s t xs p going said says f h =
     })
     f h
 
--- the same where the refusals are told as they are
+-- a stop is the same where its refusals are told as they are
 told_same : {R : Type 0} (f : InputFault R) → retold (λ said. said) f ≡ f
 told_same (Refused x) = refl
 told_same ReadFault = refl

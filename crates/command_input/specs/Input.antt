@@ -15,7 +15,7 @@ abbrev pub limit : ℕ
 limit = 16777216
 
 -- How far an input was read.
-pub record At : Type 0 where
+pub record InputProgress : Type 0 where
   pub reading : Reading
   -- how many lines were read, blank ones too
   pub number : ℕ
@@ -25,24 +25,24 @@ pub record At : Type 0 where
   pub over : Bool
 
 -- before the first line
-abbrev pub fresh : At
+abbrev pub fresh : InputProgress
 fresh = record { reading = record { kept = []; taken = 0; limit = limit }; number = 0; text = []; over = false }
 
 -- the lines ahead that aren't blank, where these bytes are still to come
-abbrev pub ahead : At → List ℕ → List (ℕ × List ℕ)
+abbrev pub ahead : InputProgress → List ℕ → List (ℕ × List ℕ)
 ahead s rest = filled_lines (s.number + 1) (collect_lines (s.reading.kept ++ rest))
 
 -- the empty lines that were there already were passed over
-abbrev pub past_empty : At → At
+abbrev pub past_empty : InputProgress → InputProgress
 past_empty s = record s { reading = past_feeds s.reading; number = s.number + feeds s.reading.kept }
 
 -- bytes that may still come: none after the end
-abbrev pub CanBeLeft : At → List ℕ → Type 0
+abbrev pub CanBeLeft : InputProgress → List ℕ → Type 0
 CanBeLeft s rest = s.over ≡ true → rest ≡ []
 
 -- What the source has left fits what was read: no more was taken than an input may have, and
 -- nothing is left where the end was met.
-pub record Fits (left : Option (List ℕ)) (s : At) : Type 0 where
+pub record Fits (left : Option (List ℕ)) (s : InputProgress) : Type 0 where
   pub within : s.reading.taken ≤ limit
   pub ended : s.over ≡ true → IsAtEnd left
 
@@ -53,9 +53,9 @@ pub record Desk : Type 0 where
   -- how many of its calls failed
   pub faults : ℕ
   -- how far the input was read
-  pub at : At
+  pub at : InputProgress
 
-abbrev pub desk : Option (List ℕ) → ℕ → At → Desk
+abbrev pub desk : Option (List ℕ) → ℕ → InputProgress → Desk
 desk left faults at = record { left = left; faults = faults; at = at }
 
 -- no call of the source failed in between
@@ -77,7 +77,7 @@ pub record Stands (old new : Desk) (bytes : List ℕ) : Type 0 where
   pub fits : Fits new.left new.at
 
 -- a measure of the lines that may still come: none after the end
-abbrev pub to_go : At → ℕ
+abbrev pub to_go : InputProgress → ℕ
 to_go s = cond s.over 0 ((limit + 2 - s.reading.taken) + length s.reading.kept)
 
 -- A line, blank or not: whatever comes after it, the lines ahead were it and those ahead of it.
@@ -180,7 +180,7 @@ Faulted Q old new NoMemory = HasNoNewFault old new × TookPart old new
 abbrev pub Stops : {R : Type 0} → (List ℕ → R → Type 0) → Desk → Desk → InputFault R → Type 0
 Stops P old new fault = Faulted (λ r. Tells (λ bytes. P bytes r) old new) old new fault
 
--- the same where the whole input was read before it is refused
+-- why the reading of an input stopped, where the whole input was read before it is refused
 abbrev pub HasStopped : {R : Type 0} → (List ℕ → R → Type 0) → Desk → Desk → InputFault R → Type 0
 HasStopped P old new fault = Faulted (λ r. Ends (λ bytes. P bytes r) old new) old new fault
 
@@ -193,7 +193,7 @@ abbrev pub GivesNoLine : Desk → Desk → LineFault → Type 0
 GivesNoLine old new fault = Faulted NothingSaid old new (of_line fault)
 
 -- Nothing is kept; the number and the text of the last line stay, and whether the end was met.
-pub record IsDropped (old new : At) : Type 0 where
+pub record IsDropped (old new : InputProgress) : Type 0 where
   pub kept : new.reading.kept ≡ []
   pub number : new.number ≡ old.number
   pub text : new.text ≡ old.text

@@ -10,7 +10,7 @@ use swap_base::{ByteText, NoMemory};
 /// What is told on standard error.
 #[derive(Debug, Drop)]
 pub enum Told {
-    /// The same words each time.
+    /// Words that are the same each time.
     Words(&'static str),
     /// The line of a refusal.
     Line(ByteText),

@@ -1,7 +1,7 @@
 //! An input that is read line by line.
 
 ghost use Rattle.std.specs.Prelude.{◌≡◌, ◌<◌, ◌≤◌, ◌+◌, [], length, true, false, IfOk, IfErr, OnOk};
-ghost use Rattle.command_input.specs.Input.{At, Breaks, Drains, Fits, GivesNoLine, GivesLine, GivesPart, IsDrained, IsDropped, ReadsLineIf, desk, fresh, limit, past_empty};
+ghost use Rattle.command_input.specs.Input.{InputProgress, Breaks, Drains, Fits, GivesNoLine, GivesLine, GivesPart, IsDrained, IsDropped, ReadsLineIf, desk, fresh, limit, past_empty};
 ghost use Rattle.command_input.specs.Input.{to_go};
 
 use crate::fault::InputFault;
@@ -24,7 +24,7 @@ pub struct Input {
 }
 
 impl Model for Input {
-    ghost Value = { At };
+    ghost Value = { InputProgress };
 
     ghost view = { λ i. record { reading = i.lines; number = i.number; text = i.line.items; over = i.over } };
 

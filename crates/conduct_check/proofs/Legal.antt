@@ -66,7 +66,7 @@ within_accepted d (Made c) Accepted h = h
 within_accepted d (Made c) _ h = tt
 within_accepted d (Tick k) r h = tt
 
--- the same as a test
+-- whether a call is for a lock of the deal
 
 set_contains_ends : Deal → Option Call → Bool
 set_contains_ends d (Some (Unlock key)) = nat_lt key.lock (length d.leaders)
@@ -118,7 +118,7 @@ within_at d b a i ms x l arc is lt at =
     (inside d (get_or (history_calls h) i x).entry (made_fails (is_outside d) h i x (no_tick_outside d) small
     (none_outside d a [] h (legal_of d b a l arc))))
 
--- so is each call of the arc's index
+-- each call of the arc's index is for a lock of the deal
 pub call_within : (d : Deal) (b : Histories) (a i v : ℕ) (ms : List Numbered) (x : Numbered) → IsLegalBook d b → a < length d.graph.arcs
     → ms ≡ history_calls (history b a) → i < length ms → x ≡ get_or ms i x → HasDealLock d (pick_call v x.entry)
 call_within d b a i v ms x l arc is lt at = within_sent d x.entry.what (is_sender v x.entry.sender) (within_at d b a i ms x l arc is lt at)

@@ -52,7 +52,7 @@ is_first b v key = is_first_key (first_key b v key.lock) key
 abbrev pub keeps_call : Deal → Histories → ℕ → ℕ → ℕ → ℕ → Call → Bool
 keeps_call d b v a n at c = keeps d b v a (take n (history b a)) at (Some c)
 
--- the same of a call with its number, where it is v's
+-- whether v keeps the rules of conduct with a numbered entry of arc a, as far as the entry is v's
 abbrev pub keeps_made : Deal → Histories → ℕ → ℕ → Made → Bool
 keeps_made d b v a m = keeps_entry d b v a (record { past = take m.number (history b a); now = m.entry })
 

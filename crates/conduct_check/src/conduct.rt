@@ -69,7 +69,7 @@ fn keeps_publish(
 }
 
 /// Whether the hashkey is valid on the arc, where it is the party's first one for its lock. On an
-/// arc that doesn't enter the party it verifies signatures anew.
+/// arc that doesn't enter the party it verifies the signatures again.
 fn is_valid_arc_key(
     deal: &Deal,
     known: &[Index],

@@ -54,7 +54,7 @@ header_is line text =
     onward (limited_value Make line raw n) _ IsOfferHeader (λ h l.
     onward (scripts_placed line h) _ IsOfferHeader (λ u s. landed h IsOfferHeader (limited_is line raw n h (raw_fits Make line d raw r) e l))))))
 
--- What is known of the job that such a line proposes.
+-- What is known of the job that a header line proposes.
 pub record IsOfferedJob (job : Job) : Type 0 where
   pub offered : IsOffered job
   pub names : All (λ x. is_name x ≡ true) job.names

@@ -16,7 +16,7 @@ use Rattle.ledger_core.specs.declared.entry.Call.TheVariants.{Publish, Unlock, C
 use Rattle.ledger_core.specs.History.{accepted, fit, IsLegal}
 use Rattle.ledger_core.specs.Book.{Histories, IsLegalBook}
 use Rattle.ledger_core.proofs.History.{clear_at}
-use Rattle.deviators.specs.Rules.{around, greedy, replayer, spoiler, spoiled_terms, call_keys, keys_known, make_unlock}
+use Rattle.deviators.specs.Rules.{item_in_turn, greedy, replayer, spoiler, spoiled_terms, call_keys, keys_known, make_unlock}
 use Rattle.deviators.specs.View.{IsPartyAnswer, MayAnswer}
 use Rattle.swap_job.specs.Fitting.{is_near}
 
@@ -26,7 +26,7 @@ in_get (x ∷ xs) zero d l = inl refl
 in_get (x ∷ xs) (suc i) d l = inr (in_get xs i d (omega arith))
 
 -- what is picked is a member
-pub around_in : {A : Type 0} (xs : List A) (t : ℕ) (x : A) → around xs t ≡ Some x → IsElement x xs
+pub around_in : {A : Type 0} (xs : List A) (t : ℕ) (x : A) → item_in_turn xs t ≡ Some x → IsElement x xs
 around_in [] t x e = absurd (cc e)
 around_in (y ∷ xs) t x e = subst (λ z. IsElement z (y ∷ xs)) (same_Some _ x e) (in_get (y ∷ xs) (t % length (y ∷ xs)) y (below (length xs) t))
   where
@@ -59,7 +59,7 @@ on_arc d v f (Some a) h = λ x q. subst (IsPartyAnswer d v) (same_Some (a, f a) 
 
 pub greedy_may : (d : Deal) (v t : ℕ) (k : Histories) → MayAnswer d v (greedy d v t k)
 greedy_may d v t k =
-    on_arc d v (λ a. Claim) (around (entering d.graph v) t) (λ a e. let i = enters d v a (around_in (entering d.graph v) t a e) in
+    on_arc d v (λ a. Claim) (item_in_turn (entering d.graph v) t) (λ a e. let i = enters d v a (around_in (entering d.graph v) t a e) in
     record { arc = i.0; near = i.1; fits = refl })
 
 six : (a b c e f g : Bool) → a ≡ true → b ≡ true → c ≡ true → e ≡ true → f ≡ true → g ≡ true → (a && b && c && e && f && g) ≡ true
@@ -78,7 +78,7 @@ spoiled_fit d a k l =
 
 pub spoiler_may : (d : Deal) (v t : ℕ) (k : Histories) → IsWellSized d → MayAnswer d v (spoiler d v t k)
 spoiler_may d v t k sized =
-    on_arc d v (λ a. Publish (spoiled_terms d a)) (around (leaving d.graph v) t) (λ a e. let i = leaves d v a (around_in (leaving d.graph v) t a e) in
+    on_arc d v (λ a. Publish (spoiled_terms d a)) (item_in_turn (leaving d.graph v) t) (λ a e. let i = leaves d v a (around_in (leaving d.graph v) t a e) in
     record { arc = i.0; near = i.1; fits = spoiled_fit d a sized i.0 })
 
 -- Hashkeys that are known.
@@ -120,7 +120,7 @@ unlock_may d v (Some a) (Some key) ha hk =
 
 pub replayer_may : (d : Deal) (v t : ℕ) (k : Histories) → IsLegalBook d k → MayAnswer d v (replayer d v t k)
 replayer_may d v t k legal =
-    unlock_may d v (around (entering d.graph v) t) (around (keys_known k) t) (λ a e. enters d v a (around_in (entering d.graph v) t a e)) (λ key e.
+    unlock_may d v (item_in_turn (entering d.graph v) t) (item_in_turn (keys_known k) t) (λ a e. enters d v a (around_in (entering d.graph v) t a e)) (λ key e.
     known_fits d k key legal (around_in (keys_known k) t key e))
 
 -- an answer that is what a rule gives

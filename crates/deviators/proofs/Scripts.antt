@@ -13,7 +13,7 @@ use Rattle.ledger_core.specs.Book.{Histories, history, IsLegalBook}
 use Rattle.ledger_core.proofs.Bounds.{countable}
 use Rattle.swap_job.specs.Crafted.{Seeds}
 use Rattle.swap_job.specs.Resolved.{move_arc, call_of_move, resolved}
-use Rattle.deviators.specs.Script.{is_wait, is_finished, past_waits, first_call, without_first, next_call, moves_left}
+use Rattle.deviators.specs.Script.{is_wait, is_wait_done, past_waits, first_call, without_first, next_call, moves_left}
 use Rattle.deviators.specs.View.{MayAnswer}
 use Rattle.swap_job.specs.declared.moves.Move.{Move}
 use Rattle.swap_job.proofs.Usable.{resolved_fits}
@@ -23,14 +23,14 @@ from_here : (moves : List Move) (n : ℕ) (mv : Move) → n < length moves → m
 from_here moves n mv l is = rw (add-one, drop-cons moves n mv l, ← is) refl
 
 -- one wait more is over
-pub over : (k : Histories) (moves : List Move) (n : ℕ) (mv : Move) (whole : List Move) → n < length moves → mv ≡ get_or moves n mv → is_finished k mv ≡ true
+pub over : (k : Histories) (moves : List Move) (n : ℕ) (mv : Move) (whole : List Move) → n < length moves → mv ≡ get_or moves n mv → is_wait_done k mv ≡ true
     → past_waits k (drop n moves) ≡ whole → past_waits k (drop (n + 1) moves) ≡ whole
 over k moves n mv whole l is e so_far =
     sym (ap (past_waits k) (from_here moves n mv l is) ∙ ap (λ b. cond b (past_waits k (drop (n + 1) moves)) (mv ∷ drop (n + 1) moves)) e) ∙ so_far
 
 -- the first move that isn't over
 pub stands : (k : Histories) (moves : List Move) (n : ℕ) (mv : Move) (whole : List Move) → n < length moves → mv ≡ get_or moves n mv
-    → is_finished k mv ≡ false → past_waits k (drop n moves) ≡ whole → drop n moves ≡ whole
+    → is_wait_done k mv ≡ false → past_waits k (drop n moves) ≡ whole → drop n moves ≡ whole
 stands k moves n mv whole l is e so_far =
     from_here moves n mv l is
     ∙ sym (sym so_far ∙ (ap (past_waits k) (from_here moves n mv l is) ∙ ap (λ b. cond b (past_waits k (drop (n + 1) moves)) (mv ∷ drop (n + 1) moves)) e))
@@ -60,7 +60,7 @@ may_resolve d seeds p k mv legal is = λ x q. record { arc = (at x q).0; near = 
 -- the moves that are left are some of the last ones
 waits_past : (P : Move → Type 0) (k : Histories) (moves : List Move) → All P moves → All P (past_waits k moves)
 waits_past P k [] all = all
-waits_past P k (mv ∷ moves) all = go (is_finished k mv) (waits_past P k moves (All-tail P mv moves all))
+waits_past P k (mv ∷ moves) all = go (is_wait_done k mv) (waits_past P k moves (All-tail P mv moves all))
   where
     go : (b : Bool) → All P (past_waits k moves) → All P (cond b (past_waits k moves) (mv ∷ moves))
     go true rest = rest

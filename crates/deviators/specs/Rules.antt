@@ -14,9 +14,9 @@ use Rattle.ledger_core.specs.declared.runs.Item.{Item}
 use Rattle.ledger_core.specs.declared.runs.Item.TheVariants.{One, Ticks}
 
 -- the member number t of the list, counted round and round; none where it is empty
-abbrev pub around : {A : Type 0} → List A → ℕ → Option A
-around [] t = None
-around (x ∷ xs) t = Some (slice_index_or (x ∷ xs) (t % length (x ∷ xs)) x)
+abbrev pub item_in_turn : {A : Type 0} → List A → ℕ → Option A
+item_in_turn [] t = None
+item_in_turn (x ∷ xs) t = Some (slice_index_or (x ∷ xs) (t % length (x ∷ xs)) x)
 
 -- never a call
 abbrev pub silent : Deal → ℕ → ℕ → Histories → Option (ℕ × Call)
@@ -24,7 +24,7 @@ silent d v t k = None
 
 -- a claim on entering arc number t
 abbrev pub greedy : Deal → ℕ → ℕ → Histories → Option (ℕ × Call)
-greedy d v t k = option_map (λ a. (a, Claim)) (around (entering d.graph v) t)
+greedy d v t k = option_map (λ a. (a, Claim)) (item_in_turn (entering d.graph v) t)
 
 -- the hashkey of a call, where it is an unlock
 abbrev pub call_keys : Option Call → List Hashkey
@@ -42,7 +42,7 @@ make_unlock _ _ = None
 
 -- an unlock on entering arc number t with known hashkey number t
 abbrev pub replayer : Deal → ℕ → ℕ → Histories → Option (ℕ × Call)
-replayer d v t k = make_unlock (around (entering d.graph v) t) (around (keys_known k) t)
+replayer d v t k = make_unlock (item_in_turn (entering d.graph v) t) (item_in_turn (keys_known k) t)
 
 -- the correct terms of arc a but for a bound of 0, which is never correct
 abbrev pub spoiled_terms : Deal → ℕ → Terms
@@ -50,7 +50,7 @@ spoiled_terms d a = record (stated_terms d a) { bound = 0 }
 
 -- a publish of spoiled terms on leaving arc number t
 abbrev pub spoiler : Deal → ℕ → ℕ → Histories → Option (ℕ × Call)
-spoiler d v t k = option_map (λ a. (a, Publish (spoiled_terms d a))) (around (leaving d.graph v) t)
+spoiler d v t k = option_map (λ a. (a, Publish (spoiled_terms d a))) (item_in_turn (leaving d.graph v) t)
 
 -- the hashkeys of the item's accepted unlocks: one for an accepted unlock, none for ticks
 abbrev pub item_keys : Item → List Hashkey

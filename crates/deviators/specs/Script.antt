@@ -15,14 +15,14 @@ is_wait (Wait a height) = true
 is_wait _ = false
 
 -- the move waits for a height that is reached, as far as is known
-abbrev pub is_finished : Histories → Move → Bool
-is_finished k (Wait a t) = nat_le t (height (history k a))
-is_finished k _ = false
+abbrev pub is_wait_done : Histories → Move → Bool
+is_wait_done k (Wait a t) = nat_le t (height (history k a))
+is_wait_done k _ = false
 
 -- the moves from the first that isn't a wait that is over
 abbrev pub past_waits : Histories → List Move → List Move
 past_waits k [] = []
-past_waits k (mv ∷ moves) = if is_finished k mv then past_waits k moves else mv ∷ moves
+past_waits k (mv ∷ moves) = if is_wait_done k mv then past_waits k moves else mv ∷ moves
 
 -- the call of the first move; none where it waits
 abbrev pub first_call : Deal → Seeds → Histories → List Move → Option (ℕ × Call)

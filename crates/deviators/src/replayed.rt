@@ -2,7 +2,7 @@
 
 ghost use Rattle.std.specs.Prelude.{◌≡◌, ◌++◌, OnOk, IfOk};
 ghost use Rattle.std.specs.List.{flat_map};
-ghost use Rattle.deviators.specs.Rules.{around, call_keys, keys_known, item_keys};
+ghost use Rattle.deviators.specs.Rules.{item_in_turn, call_keys, keys_known, item_keys};
 ghost use Rattle.ledger_core.specs.History.{accepted};
 
 use escrow_core::Reply;
@@ -60,11 +60,11 @@ pub(crate) fn keys_known(alloc: Global, known: &Book) -> Result<Vec<Shared<Hashk
 }
 
 /// The hashkey number `turn`, counted round and round.
-pub(crate) fn key_around(
+pub(crate) fn key_in_turn(
     keys: &[Shared<Hashkey>],
     turn: u32,
 ) -> Result<Option<Shared<Hashkey>>, NoMemory>
-    ensures { IfOk result (λ o. o ≡ around keys.now turn) }
+    ensures { IfOk result (λ o. o ≡ item_in_turn keys.now turn) }
 {
     if keys.is_empty() {
         return Ok(None);

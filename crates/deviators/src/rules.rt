@@ -3,10 +3,10 @@
 ghost use Rattle.std.specs.Prelude.{◌≡◌, ◌<◌, IfOk, Ok, None, [], length};
 ghost use Rattle.swap_digraph.specs.Deal.{IsWellSized};
 ghost use Rattle.escrow_core.specs.Terms.{stated_terms};
-ghost use Rattle.deviators.specs.Rules.{around, silent, greedy, replayer, spoiler, spoiled_terms};
+ghost use Rattle.deviators.specs.Rules.{item_in_turn, silent, greedy, replayer, spoiler, spoiled_terms};
 ghost use Rattle.deviators.specs.View.{IsView, MayAnswer};
 
-use crate::replayed::{key_around, keys_known};
+use crate::replayed::{key_in_turn, keys_known};
 use escrow_core::{Terms, stated_terms};
 use ledger_core::{Book, Call};
 use std::alloc::Global;
@@ -14,8 +14,8 @@ use swap_base::{ArcId, NoMemory, PartyId, Shared};
 use swap_digraph::Deal;
 
 /// Arc number `turn`, counted round and round.
-fn around(arcs: &[ArcId], turn: u32) -> Option<ArcId>
-    ensures { result ≡ around arcs.now turn }
+fn item_in_turn(arcs: &[ArcId], turn: u32) -> Option<ArcId>
+    ensures { result ≡ item_in_turn arcs.now turn }
 {
     if arcs.is_empty() {
         return None;
@@ -42,7 +42,7 @@ fn claim_in_turn(deal: &Deal, me: PartyId, turn: u32) -> Option<(ArcId, Call)>
     requires party { me < deal.now.graph.n }
     ensures { result ≡ greedy deal.now me turn [] }
 {
-    match around(deal.graph.entering(me), turn) {
+    match item_in_turn(deal.graph.entering(me), turn) {
         Some(arc) => Some((arc, Call::Claim)),
         None => None,
     }
@@ -74,8 +74,8 @@ fn unlock_in_turn(
     ensures { IfOk result (λ o. o ≡ replayer deal.now me turn known.now.histories) }
 {
     let keys = keys_known(alloc, known)?;
-    let key = key_around(&keys, turn)?;
-    match (around(deal.graph.entering(me), turn), key) {
+    let key = key_in_turn(&keys, turn)?;
+    match (item_in_turn(deal.graph.entering(me), turn), key) {
         (Some(arc), Some(key)) => Ok(Some((arc, Call::Unlock(key)))),
         _ => Ok(None),
     }
@@ -119,7 +119,7 @@ fn publish_in_turn(
     requires party { me < deal.now.graph.n }
     ensures { IfOk result (λ o. o ≡ spoiler deal.now me turn []) }
 {
-    match around(deal.graph.leaving(me), turn) {
+    match item_in_turn(deal.graph.leaving(me), turn) {
         Some(arc) => {
             let terms = Shared::new(alloc, spoiled_terms(deal, arc))?;
             Ok(Some((arc, Call::Publish(terms))))

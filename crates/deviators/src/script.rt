@@ -4,7 +4,7 @@ ghost use Rattle.std.specs.Prelude.{◌≡◌, ◌<◌, ◌≤◌, ◌^◌, ℕ,
 ghost use Rattle.ledger_core.specs.Book.{history};
 ghost use Rattle.ledger_core.specs.History.{height};
 ghost use Rattle.swap_job.specs.Resolved.{move_arc};
-ghost use Rattle.deviators.specs.Script.{is_wait, is_finished, past_waits, next_call, moves_left};
+ghost use Rattle.deviators.specs.Script.{is_wait, is_wait_done, past_waits, next_call, moves_left};
 ghost use Rattle.deviators.specs.View.{IsView, MayAnswer};
 ghost use Rattle.swap_job.specs.Fitting.{IsPartyMove};
 
@@ -14,7 +14,7 @@ use swap_base::{ArcId, Digest, NoMemory, PartyId};
 use swap_digraph::Deal;
 use swap_job::{Move, MoveList, resolve};
 
-/// Moves, of which some were made. Callers see those that are left.
+/// Moves, some of them made. Callers see those that are left.
 #[derive(Debug, Drop)]
 pub struct Script {
     moves: MoveList,
@@ -35,10 +35,10 @@ impl Model for Script {
 }
 
 /// Whether a move waits for a height that is reached, as far as is known.
-fn is_finished(mv: &Move, known: &Book) -> bool
+fn is_wait_done(mv: &Move, known: &Book) -> bool
     requires arc { move_arc mv.now < length known.now.histories }
     requires low { (a : ℕ) → height (history known.now.histories a) < 2 ^ 32 }
-    ensures { result ≡ is_finished known.now.histories mv.now }
+    ensures { result ≡ is_wait_done known.now.histories mv.now }
 {
     match mv {
         Move::Wait { arc, height } => {
@@ -67,7 +67,7 @@ fn after_waits(moves: &[Move], from: usize, known: &Book) -> usize
     ensures past { drop result moves.now ≡ past_waits known.now.histories (drop from moves.now) }
 {
     for at in from..moves.len() {
-        if !is_finished(&moves[at], known) {
+        if !is_wait_done(&moves[at], known) {
             return at;
         }
     }

@@ -14,7 +14,7 @@ use swap_base::{ArcId, Listed, NoMemory};
 use swap_digraph::Digraph;
 
 /// The tree from party 0.
-fn tree_along(alloc: Global, graph: &Digraph) -> Result<Listed<Option<ArcId>>, NoMemory>
+fn forward_tree(alloc: Global, graph: &Digraph) -> Result<Listed<Option<ArcId>>, NoMemory>
     requires parties { (2 ≤ graph.now.n) × (graph.now.n ≤ 32) }
     requires few { length graph.now.arcs ≤ 128 }
     requires ends { HasEnds graph.now }
@@ -47,7 +47,7 @@ pub fn strong(alloc: Global, graph: &Digraph) -> Result<Strength, NoMemory>
     ensures closed { IfOk result (λ s. IfClosed s (λ set. IsClosedSet graph.now set)) }
     ensures not_connected { IfOk result (λ s. IfClosed s (λ set. IsStronglyConnected graph.now → ⊥)) }
 {
-    let from_zero = tree_along(alloc, graph)?;
+    let from_zero = forward_tree(alloc, graph)?;
     if !enters_all(from_zero.as_slice()) {
         let reached = entered_parties(alloc, from_zero.as_slice())?;
         return Ok(Strength::Closed(reached));

@@ -14,11 +14,11 @@ no_four = record { rows = [] }
 abbrev pub HasRow : (ℕ → ℕ → List ℕ) → ℕ → List Row → Type 0
 HasRow f n rows = (i : ℕ) → i < 4 → slice_index_or (slice_index_or rows n no_row).values i [] ≡ f n i
 
--- the values of four chains, of which j is the first, after 0 to 15 steps
+-- the values of four chains, from chain j on, after 0 to 15 steps
 abbrev pub AreFourChains : List ℕ → ℕ → ℕ → ℕ → Four → Type 0
 AreFourChains seed party lock j four = (n : ℕ) → n < 16 → HasRow (λ k i. chain_value k (chain_start seed party lock (j + i))) n four.rows
 
--- the starts of four chains, of which j is the first
+-- the starts of four chains, from chain j on
 abbrev pub AreStarts : List ℕ → ℕ → ℕ → ℕ → List (List ℕ) → Type 0
 AreStarts seed party lock j four = (i : ℕ) → i < 4 → slice_index_or four i [] ≡ chain_start seed party lock (j + i)
 

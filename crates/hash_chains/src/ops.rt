@@ -1,4 +1,4 @@
-//! Operations on four words side by side, of which the functions of SHA-256 are made (FIPS 180-4,
+//! Operations on four words side by side. The functions of SHA-256 are made of them (FIPS 180-4,
 //! sections 3.2 and 4.1.2).
 
 ghost use Rattle.std.specs.Prelude.{◌≡◌, ℕ, ◌+◌, ◌-◌, ◌*◌, ◌/◌, ◌%◌, ◌^◌, ◌<◌, slice_index, bit_and, bit_or, bit_xor};

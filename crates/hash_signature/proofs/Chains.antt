@@ -66,7 +66,7 @@ held_all f n s e h =
     let P : List ℕ → Type 0 = λ m. Holds256 s m in
     subst P (ap (λ l. 3 ∷ joined l) (all_chains f n e)) h
 
--- a list with a value for each chain, one value more of which is written
+-- a list with a value for each chain, after one more value in it was written
 pub filled_more : {X : Type 0} (f : ℕ → X) (xs : List X) (n : ℕ) (x : X) → length xs ≡ 67 → n < 67 → x ≡ f n → take n xs ≡ first_chains f n
     → take (n + 1) (set xs n x) ≡ first_chains f (n + 1)
 filled_more f xs n x len lt e so_far =

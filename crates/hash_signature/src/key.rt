@@ -1,4 +1,4 @@
-//! Keys, each of which signs once.
+//! Keys that sign once.
 
 ghost use Rattle.std.specs.Prelude.{◌≡◌, IfOk, IsTrue};
 ghost use Rattle.hash_signature.specs.Key.{KeyParts};
@@ -18,7 +18,7 @@ use swap_base::NoMemory;
 /// Where a key's signature comes from.
 #[derive(Drop)]
 enum Source {
-    /// Each value of the chains, of which signing only picks one of each chain.
+    /// Each value of the chains: signing only picks one value of each chain.
     Walked(Chains),
     /// What the chains begin with, from where signing walks each as far as the digit of the message
     /// at it says.
@@ -64,8 +64,8 @@ pub fn keygen(
     Ok((OneTimeKey { source }, public))
 }
 
-/// The same key without its public key. It takes no memory and hashes nothing yet; its signature
-/// takes half of the hashes that `keygen` does.
+/// The key that a party's seed gives for a lock, without its public key. It takes no memory and
+/// hashes nothing yet; its signature takes half of the hashes that `keygen` does.
 pub fn unwalked_key(seed: &Digest, party: PartyId, lock: LockId) -> OneTimeKey
     ensures { result ≡ record { seed = seed.now; party = party; lock = lock } }
 {

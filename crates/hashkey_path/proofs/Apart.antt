@@ -34,7 +34,7 @@ parts {A} (x ∷ xs) (y ∷ ys) us vs l e =
     let h : x ≡ y = head_is x y (xs ++ us) (ys ++ vs) e in
     (ap (λ z. z ∷ xs) h ∙ ap (λ (zs : List A). y ∷ zs) r.0, r.1)
 
--- the same where a front stands before another
+-- two fronts are equal where each stands before another one
 fronts : {A : Type 0} (xs ys us vs ts ws : List A) → length xs ≡ length ys → (xs ++ us) ++ ts ≡ (ys ++ vs) ++ ws → (xs ≡ ys) × (us ++ ts ≡ vs ++ ws)
 fronts xs ys us vs ts ws l e = parts xs ys (us ++ ts) (vs ++ ws) l (sym (append_assoc xs us ts) ∙ (e ∙ append_assoc ys vs ws))
 

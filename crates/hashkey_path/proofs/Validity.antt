@@ -1,6 +1,6 @@
 -- When a hashkey is valid: all suffixes at once, against a walk over them.
 use Rattle.std.proofs.Common.{◌≡◌, ℕ, ◌+◌, Bool, true, false, cond, ◌&&◌, ◌==◌, IsTrue, List, [], ◌∷◌, ◌++◌, length, Option, Some, None, is_none, refl}
-use Rattle.std.proofs.Common.{sym, ap, ◌∙◌, arith, nat_eq, eqb-true, eq-eqb}
+use Rattle.std.proofs.Common.{◌↔◌, sym, ap, ◌∙◌, arith, nat_eq, eqb-true, eq-eqb}
 use Rattle.std.proofs.lemmas.Bool.{not-false, not_from_true}
 use Rattle.std.proofs.lemmas.List.{nil_from_length}
 use Rattle.std.specs.Str.{bytes_eq}
@@ -13,6 +13,7 @@ use Rattle.swap_digraph.specs.Deal.{counterparty, lock_leader}
 use Rattle.hash_signature.specs.declared.sig.Sig.{Sig}
 use Rattle.hash_signature.specs.Signature.{hashed_value}
 use Rattle.hashkey_path.specs.declared.hashkey.Hashkey.{Hashkey}
+use Rattle.hashkey_path.specs.declared.hashkey.HashkeyAnswer.{HashkeyAnswer}
 use Rattle.hashkey_path.specs.declared.hashkey.HashkeyAnswer.TheVariants.{Valid, WrongSecret, WrongPath}
 use Rattle.hashkey_path.specs.Hashkey.{is_signed, are_signed, wrong_signature, is_wrong_secret, is_wrong_path, of_signatures, hashkey_answer, HasPath}
 use Rattle.hashkey_path.specs.Hashkey.{IsValidHashkey}
@@ -148,3 +149,8 @@ to_valid d a hashlock key v =
     let p = to_path d.mode d a key v.path in
     from_parts d.mode (is_wrong_secret hashlock key) (is_wrong_path d a d.mode key) (wrong_signature 0 d key.lock key.secret key.path key.sigs)
     (not_from_true _ (ap (λ (xs : List ℕ). bytes_eq xs hashlock) v.secret ∙ bytes_eq_self hashlock)) p.0 p.1
+
+-- an answer that is the table's says whether the hashkey is valid
+pub answers_valid : (d : Deal) (a : ℕ) (hashlock : List ℕ) (key : Hashkey) (r : HashkeyAnswer) → r ≡ hashkey_answer d a hashlock key
+    → (r ≡ Valid) ↔ IsValidHashkey d a hashlock key
+answers_valid d a hashlock key r e = (λ v. valid_from d a hashlock key (sym e ∙ v), λ v. e ∙ to_valid d a hashlock key v)

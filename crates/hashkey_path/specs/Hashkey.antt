@@ -75,12 +75,14 @@ of_signatures Timelocks place = Valid
 of_signatures Hashkeys None = Valid
 of_signatures Hashkeys (Some j) = WrongSignature j
 
+-- the first thing that is wrong with the hashkey but for its secret
+abbrev pub path_answer : Deal → ℕ → Hashkey → HashkeyAnswer
+path_answer d a key =
+    if is_wrong_path d a d.mode key then WrongPath else of_signatures d.mode (wrong_signature 0 d key.lock key.secret key.path key.sigs)
+
 -- the first thing that is wrong with the hashkey
 unfoldable pub hashkey_answer : Deal → ℕ → List ℕ → Hashkey → HashkeyAnswer
-hashkey_answer d a hashlock key =
-    if is_wrong_secret hashlock key then WrongSecret
-    else if is_wrong_path d a d.mode key then WrongPath
-    else of_signatures d.mode (wrong_signature 0 d key.lock key.secret key.path key.sigs)
+hashkey_answer d a hashlock key = if is_wrong_secret hashlock key then WrongSecret else path_answer d a key
 
 -- Each signature is that of its vertex over the suffix that begins there, all suffixes at once.
 abbrev pub SignsEachSuffix : Deal → Hashkey → Type 0

@@ -11,6 +11,7 @@ abbrev pub are_last_signed : ℕ → Deal → ℕ → List ℕ → List ℕ → 
 are_last_signed zero d lock secret path sigs = true
 are_last_signed (suc n) d lock secret path sigs = are_signed d lock secret (drop (length sigs - suc n) path) (drop (length sigs - suc n) sigs)
 
--- the same of a hashkey; none is known where n is 0
+-- each of a hashkey's last n signatures, or each if there are fewer, is that of its vertex; nothing
+-- is said where n is 0
 abbrev pub is_last_signed : ℕ → Deal → Hashkey → Bool
 is_last_signed n d key = are_last_signed n d key.lock key.secret key.path key.sigs

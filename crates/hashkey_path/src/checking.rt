@@ -2,12 +2,12 @@
 
 ghost use Rattle.std.specs.Prelude.{◌≡◌, ◌<◌, ◌↔◌, IsTrue, length};
 ghost use Rattle.swap_digraph.specs.Deal.{IsWellSized};
-ghost use Rattle.hashkey_path.specs.Hashkey.{hashkey_answer, is_wrong_path, IsValidHashkey};
+ghost use Rattle.hashkey_path.specs.Hashkey.{hashkey_answer, is_wrong_path, path_answer, IsValidHashkey};
 ghost use Rattle.hashkey_path.specs.LastSignatures.{is_last_signed};
 
 use crate::hashkey::{Hashkey, HashkeyAnswer};
 use crate::path::{first_is, is_path, last_is};
-use crate::suffix::wrong_signature;
+use crate::suffix::{Suffix, wrong_signature};
 use hash_signature::hashed_value;
 use swap_base::{ArcId, Digest};
 use swap_digraph::{Deal, Mode};
@@ -31,42 +31,36 @@ fn is_wrong_path(deal: &Deal, arc: ArcId, key: &Hashkey) -> bool
     }
 }
 
-#[tactic(auto, unfolding(crate::specs::Hashkey::hashkey_answer))]
-fn hashkey_answer(
-    deal: &Deal,
-    arc: ArcId,
-    hashlock: &Digest,
-    key: &Hashkey,
-    verified: usize,
-) -> HashkeyAnswer
+/// What is wrong with the hashkey's path, or with the first of its signatures that is wrong.
+fn path_answer(deal: &Deal, arc: ArcId, key: &Hashkey, verified: usize) -> HashkeyAnswer
     requires sized { IsWellSized deal.now }
     requires arc { arc < length deal.now.graph.arcs }
     requires lock { key.now.lock < length deal.now.leaders }
     requires known { IsTrue (is_last_signed verified deal.now key.now) }
-    ensures { result ≡ hashkey_answer deal.now arc hashlock.now key.now }
+    ensures { result ≡ path_answer deal.now arc key.now }
 {
-    if hashed_value(&key.secret) != *hashlock {
-        return HashkeyAnswer::WrongSecret;
-    }
     if is_wrong_path(deal, arc, key) {
         return HashkeyAnswer::WrongPath;
     }
+    let whole = Suffix {
+        lock: key.lock,
+        secret: &key.secret,
+        path: key.path.as_slice(),
+        sigs: key.sigs.as_slice(),
+    };
     match deal.mode {
         Mode::Timelocks => HashkeyAnswer::Valid,
-        Mode::Hashkeys => {
-            let path = key.path.as_slice();
-            let sigs = key.sigs.as_slice();
-            match wrong_signature(0, deal, key.lock, &key.secret, path, sigs, verified) {
-                None => HashkeyAnswer::Valid,
-                Some(place) => HashkeyAnswer::WrongSignature(place),
-            }
-        }
+        Mode::Hashkeys => match wrong_signature(0, deal, &whole, verified) {
+            None => HashkeyAnswer::Valid,
+            Some(place) => HashkeyAnswer::WrongSignature(place),
+        },
     }
 }
 
 /// Whether the hashkey is valid on the arc under the hashlock, or the first thing that is wrong
 /// with it. The last `verified` signatures were verified before, and aren't verified here. Where
 /// `verified` is at least the number of signatures, none is verified. It takes no memory.
+#[tactic(auto, unfolding(crate::specs::Hashkey::hashkey_answer))]
 pub fn check(
     deal: &Deal,
     arc: ArcId,
@@ -81,5 +75,8 @@ pub fn check(
     ensures first { result ≡ hashkey_answer deal.now arc hashlock.now key.now }
     ensures valid { (result ≡ HashkeyAnswer.Valid) ↔ IsValidHashkey deal.now arc hashlock.now key.now }
 {
-    hashkey_answer(deal, arc, hashlock, key, verified)
+    if hashed_value(&key.secret) != *hashlock {
+        return HashkeyAnswer::WrongSecret;
+    }
+    path_answer(deal, arc, key, verified)
 }

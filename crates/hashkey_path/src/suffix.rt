@@ -10,6 +10,16 @@ use sha2::{Digest as Hasher, Sha256};
 use swap_base::{Digest, LockId, PartyId};
 use swap_digraph::{Deal, Mode};
 
+/// What a vertex of a hashkey's path signed and those after it: a suffix of the path, with the
+/// signatures over that suffix and the shorter ones.
+#[derive(Clone, Copy)]
+pub(crate) struct Suffix<'a> {
+    pub lock: LockId,
+    pub secret: &'a Digest,
+    pub path: &'a [PartyId],
+    pub sigs: &'a [Sig],
+}
+
 /// The public key of a party for a lock.
 pub(crate) fn party_public_key(deal: &Deal, party: PartyId, lock: LockId) -> Digest
     requires keys { HasKeys Mode.Hashkeys deal.now }
@@ -56,19 +66,22 @@ pub(crate) fn signing_message(
 pub(crate) fn wrong_signature(
     place: u8,
     deal: &Deal,
-    lock: LockId,
-    secret: &Digest,
-    path: &[PartyId],
-    sigs: &[Sig],
+    suffix: &Suffix<'_>,
     verified: usize,
 ) -> Option<u8>
     requires keys { HasKeys Mode.Hashkeys deal.now }
-    requires lock { lock < length deal.now.leaders }
-    requires few { place + length path.now < 256 }
-    requires within { All (λ v. v < deal.now.graph.n) path.now }
-    requires known { IsTrue (are_last_signed verified deal.now lock secret.now path.now sigs.now) }
-    ensures { result ≡ wrong_signature place deal.now lock secret.now path.now sigs.now }
+    requires lock { suffix.now.lock < length deal.now.leaders }
+    requires few { place + length suffix.now.path.now < 256 }
+    requires within { All (λ v. v < deal.now.graph.n) suffix.now.path.now }
+    requires known { IsTrue (are_last_signed verified deal.now suffix.now.lock suffix.now.secret.now suffix.now.path.now suffix.now.sigs.now) }
+    ensures { result ≡ wrong_signature place deal.now suffix.now.lock suffix.now.secret.now suffix.now.path.now suffix.now.sigs.now }
 {
+    let Suffix {
+        lock,
+        secret,
+        path,
+        sigs,
+    } = *suffix;
     match (path, sigs) {
         ([v, rest @ ..], [sig, inner @ ..]) => {
             if sigs.len() <= verified {
@@ -76,11 +89,15 @@ pub(crate) fn wrong_signature(
             }
             let public = party_public_key(deal, *v, lock);
             let message = signing_message(&deal.id, lock, path, secret, inner);
-            if verify(&public, &message, sig) {
-                wrong_signature(place + 1, deal, lock, secret, rest, inner, verified)
-            } else {
-                Some(place)
+            if !verify(&public, &message, sig) {
+                return Some(place);
             }
+            let shorter = Suffix {
+                path: rest,
+                sigs: inner,
+                ..*suffix
+            };
+            wrong_signature(place + 1, deal, &shorter, verified)
         }
         _ => None,
     }

@@ -57,7 +57,7 @@ module _ (d : Deal) (a : ℕ) where
         to_few = let k = length-numbers 0 (counterparty d a) h in let f = b.by_counterparty in omega arith;
       }
 
-  -- so is each prefix of one
+  -- each prefix of a legal history is one that an index takes
   pub front_indexable : (xs ys : List Entry) → IsWellSized d → IsLegal d a (xs ++ ys) → IsIndexable (party d a) (counterparty d a) xs
   front_indexable xs ys s l = indexable xs s (all_moments_front (IsLegalMoment d a) xs ys l)
 

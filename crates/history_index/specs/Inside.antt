@@ -12,7 +12,7 @@ use Rattle.history_index.specs.declared.index.Index.TheInside.{Inside}
 abbrev pub build_index : Inside → IndexState
 build_index i = record { arc = i.arc; from = i.from.party; to = i.to.party; terms = i.terms; entries = expand i.past.items; spare = i.room }
 
--- So many further numbers have room.
+-- n further numbers have room.
 abbrev pub HasRoom : ℕ → Caller → Type 0
 HasRoom n c = length c.numbers.items + n ≤ vec_capacity c.numbers
 

@@ -27,7 +27,7 @@ has_kind k (Unlock i) = slice_index_or k.unlock i false
 has_kind k Claim = k.claim
 has_kind k Refund = k.refund
 
--- with the kind of one more entry of the party
+-- the kinds with that of one more entry of the party
 abbrev pub with_call : Kinds → What → Kinds
 with_call k (Made (calls.Publish t)) = record k { publish = true }
 with_call k (Made (calls.Unlock key)) = record k { unlock = slice_set k.unlock key.lock true }
@@ -47,7 +47,7 @@ updated_kinds p e ks = if is_sender p e.sender then with_call ks e.what else ks
 abbrev pub no_answers : Answers
 no_answers = record { height = 0; published = None; published_number = None; unlocked = replicate 8 None; settled = None }
 
--- with the number of an accepted unlock, where it is the first of its lock
+-- the openings with the number of an accepted unlock, where it is the first of its lock
 abbrev pub with_opening : List (Option ℕ) → ℕ → Option Call → List (Option ℕ)
 with_opening us n (Some (calls.Unlock key)) = slice_set us key.lock (or_else (slice_index_or us key.lock None) (Some n))
 with_opening us n _ = us

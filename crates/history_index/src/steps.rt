@@ -35,14 +35,14 @@ impl<L: Ledger> Steps<L> {
         Steps { book, share }
     }
 
-    /// One more step.
+    /// Counts one step more.
     pub(crate) fn count(&mut self)
         ensures { self.new ≡ self.old + 1 }
     {
         self.count_many(1);
     }
 
-    /// So many more steps.
+    /// Counts this many steps more.
     pub(crate) fn count_many(&mut self, steps: u32)
         ensures { self.new ≡ self.old + steps }
     {

@@ -31,7 +31,7 @@ pub some_first : {A B : Type 0} (f : A → Option B) (xs : List A) → is_some (
 some_first f [] = refl
 some_first f (x ∷ xs) = or_some (f x) (first_given_answer f xs) (list_any (λ y. is_some (f y)) xs) (some_first f xs)
 
--- the same where an element holds no memory
+-- the first answer where an element holds no memory
 
 pub found_at : {A B C : Type 0} (g : C → B) (f : A → Option B) (xs : List A) (i : ℕ) (d : A) (r : Option C) → i < length xs
     → first_given_answer f (take i xs) ≡ None → option_map g r ≡ f (get_or xs i d) → is_some r ≡ true → option_map g r ≡ first_given_answer f xs

@@ -35,7 +35,7 @@ mapped_none : {B C : Type 0} (g : B → C) (o : Option B) (r : Option C) → r �
 mapped_none g None r e h = refl
 mapped_none g (Some y) r e h = let k : true ≡ false = sym (ap is_some e) ∙ h in absurd (cc k)
 
--- The same where what is read is g of each answer.
+-- The first answer where what is read is g of each answer.
 
 pub found_mapped : {A B C : Type 0} (g : B → C) (f : A → Option B) (xs : List A) (i : ℕ) (x : A) (r : Option C) → i < length xs → x ≡ get_or xs i x
     → first_given_answer f (take i xs) ≡ None → r ≡ option_map g (f x) → is_some r ≡ true → r ≡ option_map g (first_given_answer f xs)
@@ -51,7 +51,7 @@ mapped_same : {B : Type 0} (o : Option B) → o ≡ option_map (λ y. y) o
 mapped_same None = refl
 mapped_same (Some y) = refl
 
--- The same where the answers themselves are read.
+-- The first answer where the answers themselves are read.
 
 pub found_first : {A B : Type 0} (f : A → Option B) (xs : List A) (i : ℕ) (x : A) (r : Option B) → i < length xs → x ≡ get_or xs i x
     → first_given_answer f (take i xs) ≡ None → r ≡ f x → is_some r ≡ true → r ≡ first_given_answer f xs

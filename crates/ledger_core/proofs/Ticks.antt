@@ -49,11 +49,11 @@ last_right r n l e =
     let f : r.by * r.count ≡ r.by * ((r.count - n) + n) = ap (λ z. r.by * z) (omega arith) in
     omega arith
 
--- so far the heights of a run's ticks are numbers of 32 bits
+-- the heights of a run's ticks are numbers of 32 bits
 pub next_right : (r : Run) (i : ℕ) → i < r.count → IsRightRun r → r.above + r.by * i + r.by < 2 ^ 32
 next_right r i l e = let f : r.by * suc i ≤ r.by * r.count = mul-le-mul_left r.by l in omega arith
 
--- two runs of which the second goes on from the first
+-- two runs of ticks are one where the second goes on from the first
 pub ticks_join : (at k m n all next : ℕ) → all ≡ m + n → next ≡ at + k * m → ticks_above at k all ≡ ticks_above at k m ++ ticks_above next k n
 ticks_join at k m zero all next s e =
     let h : all ≡ m = omega arith in
@@ -137,7 +137,7 @@ expand_split xs i x l e =
     ap expand (sym (take-append-drop i xs)) ∙ expand_append (take i xs) (drop i xs)
     ∙ ap (λ ys. expand (take i xs) ++ ys) (ap expand (drop_more xs i x l ∙ ap (λ z. z ∷ drop (i + 1) xs) (sym e)) ∙ expand_cons x (drop (i + 1) xs))
 
--- so far the items' entries were put, and then one more's
+-- the entries of the items so far were put, and then those of one more item
 pub put_more : (start out out' : List Entry) (xs : List Item) (i : ℕ) (x : Item) → i < length xs → x ≡ get_or xs i x
     → out ≡ start ++ expand (take i xs) → out' ≡ out ++ ledger_entries x → out' ≡ start ++ expand (take (i + 1) xs)
 put_more start out out' xs i x l e so_far put =
@@ -192,7 +192,7 @@ drop_within xs ys k n l e =
     let b : k ≡ length xs + (length ys - n) = omega arith in
     ap (λ z. drop z (xs ++ ys)) b ∙ drop-append-add xs ys (length ys - n)
 
--- or begins in the first
+-- what is left after k entries begins in the first list
 pub drop_before : (xs ys : List Entry) (k n : ℕ) → length ys ≤ n → k + n ≡ length (xs ++ ys) → drop k (xs ++ ys) ≡ drop (length xs - (n - length ys)) xs ++ ys
 drop_before xs ys k n l e =
     let a : length (xs ++ ys) ≡ length xs + length ys = length-append xs ys in

@@ -33,7 +33,7 @@ after_call d a p c h = if is_sender_full (history_reply d a h p c) then h else h
 abbrev pub tick_entry : (k at : ℕ) → Reply → Entry
 tick_entry k at r = record { sender = Clock; height = at; what = Tick k; reply = r }
 
--- The same ledger after one more entry.
+-- The ledger after one more entry.
 pub record HasEntryAdded (old : LedgerState) (e : Entry) (new : LedgerState) : Type 0 where
   pub deal : new.deal ≡ old.deal
   pub arc : new.arc ≡ old.arc

@@ -10,7 +10,7 @@ use crate::accounts::Accounts;
 use crate::entry::{Call, Entry, Sender, What};
 use crate::entry_list::EntryList;
 use crate::ledger_history::LedgerHistory;
-use crate::make_reply::{make_reply, one_more_where, updated_accounts};
+use crate::make_reply::{MadeCall, make_reply, one_more_where, updated_accounts};
 use escrow_core::{Contract, Reply};
 use std::alloc::Global;
 use std::marker::Model;
@@ -121,15 +121,18 @@ impl Ledger {
         }
         let balance = self.balance(sender);
         let from_party = sender == self.party;
+        let made = MadeCall {
+            sender,
+            call: &call,
+            verified,
+        };
         let reply = make_reply(
             &self.deal,
             self.arc,
             &mut self.contract,
             self.height,
             balance,
-            sender,
-            &call,
-            verified,
+            &made,
         );
         self.accounts = updated_accounts(self.party, self.accounts, from_party, &call, reply);
         self.party_calls = one_more_where(from_party, self.party_calls);

@@ -50,31 +50,39 @@ fn transfer(balance: u64, units: u64) -> Reply
     Reply::Accepted
 }
 
-/// The reply to a call of a sender that hasn't too many entries. Where it is accepted, the contract
-/// changes with it.
+/// A call as a party makes it: its sender, what it asks, and how many of the last signatures of its
+/// hashkey were verified before.
+#[derive(Clone, Copy)]
+pub(crate) struct MadeCall<'a> {
+    pub sender: PartyId,
+    pub call: &'a Call,
+    pub verified: usize,
+}
+
+/// The reply to a call of a sender that hasn't too many entries and has that balance. Where it is
+/// accepted, the contract changes with it.
 pub(crate) fn make_reply(
     deal: &Shared<Deal>,
     arc: ArcId,
     contract: &mut Option<Contract>,
     height: u32,
     balance: u64,
-    sender: PartyId,
-    call: &Call,
-    verified: usize,
+    made: &MadeCall<'_>,
 ) -> Reply
     requires sized { IsWellSized deal.now }
     requires arc { arc < length deal.now.graph.arcs }
     requires contract { IsHistoryContract deal.now arc contract.old }
-    requires fits { IsTrue (fit deal.now arc call.now) }
-    requires known { IsTrue (is_known_call verified deal.now call.now) }
-    ensures reply { result ≡ reply_by_contract deal.now arc contract.old height balance sender call.now }
-    ensures contract { contract.new ≡ next_contract deal.now arc contract.old (accepted_call (What.Call call.now) result) }
+    requires fits { IsTrue (fit deal.now arc made.now.call.now) }
+    requires known { IsTrue (is_known_call made.now.verified deal.now made.now.call.now) }
+    ensures reply { result ≡ reply_by_contract deal.now arc contract.old height balance made.now.sender made.now.call.now }
+    ensures contract { contract.new ≡ next_contract deal.now arc contract.old (accepted_call (What.Call made.now.call.now) result) }
 {
-    match call {
+    let sender = made.sender;
+    match made.call {
         Call::Publish(terms) => publish(deal, arc, contract, balance, sender, terms),
         Call::Unlock(key) => match contract {
             None => Reply::NoContract,
-            Some(contract) => contract.unlock(deal, height, sender, key, verified),
+            Some(contract) => contract.unlock(deal, height, sender, key, made.verified),
         },
         Call::Claim => match contract {
             None => Reply::NoContract,

@@ -11,13 +11,13 @@ use Rattle.ledger_core.specs.declared.entry.Sender.{Sender}
 use Rattle.ledger_core.specs.declared.entry.Sender.TheVariants.{Party, Clock}
 use Rattle.ledger_shared.specs.declared.shelf.Line.{Line}
 use Rattle.ledger_shared.specs.declared.shelf.Line.TheVariants.{Head, Made}
-use Rattle.ledger_shared.specs.Lines.{sender_side, side_entries, made_lines, lines, line_author, line_entries, head_arc, head_deal}
+use Rattle.ledger_shared.specs.Lines.{sender_side, side_entries, made_lines, entry_lines, line_author, line_entries, head_arc, head_deal}
 
 pub unmade_append : (d : Deal) (a : ℕ) (h : List Entry) (ls : List Line) → line_entries (made_lines d a h ++ ls) ≡ h ++ line_entries ls
 unmade_append d a [] ls = refl
 unmade_append d a (e ∷ h) ls = ap (λ w. e ∷ w) (unmade_append d a h ls)
 
-pub unmade : (d : Deal) (a : ℕ) (h : List Entry) → line_entries (lines d a h) ≡ h
+pub unmade : (d : Deal) (a : ℕ) (h : List Entry) → line_entries (entry_lines d a h) ≡ h
 unmade d a [] = refl
 unmade d a (e ∷ h) = ap (λ w. e ∷ w) (unmade d a h)
 
@@ -43,19 +43,19 @@ unmade_by k d a [] = refl
 unmade_by k d a (e ∷ h) = both (sender_side d a e.sender == k) (sender_side d a e.sender) e (author_entries line_author k (made_lines d a h)) (side_entries d a k h)
     (unmade_by k d a h)
 
-lines_by : (k : ℕ) (d : Deal) (a : ℕ) (h : List Entry) → line_entries (author_entries line_author k (lines d a h)) ≡ side_entries d a k h
+lines_by : (k : ℕ) (d : Deal) (a : ℕ) (h : List Entry) → line_entries (author_entries line_author k (entry_lines d a h)) ≡ side_entries d a k h
 lines_by k d a h = headed (2 == k) d a (author_entries line_author k (made_lines d a h)) ∙ unmade_by k d a h
 
-pub same_deal : (k : ℕ) (d c : Deal) (a b : ℕ) (h s : List Entry) → Covers line_author (lines d a h) (k, lines c b s) → d ≡ c
+pub same_deal : (k : ℕ) (d c : Deal) (a b : ℕ) (h s : List Entry) → Covers line_author (entry_lines d a h) (k, entry_lines c b s) → d ≡ c
 same_deal k d c a b h s v = sym (ap head_deal v.0.1)
 
-pub same_arc : (k : ℕ) (d c : Deal) (a b : ℕ) (h s : List Entry) → Covers line_author (lines d a h) (k, lines c b s) → a ≡ b
+pub same_arc : (k : ℕ) (d c : Deal) (a b : ℕ) (h s : List Entry) → Covers line_author (entry_lines d a h) (k, entry_lines c b s) → a ≡ b
 same_arc k d c a b h s v = sym (ap head_arc v.0.1)
 
-pub goes_longer : (k : ℕ) (d c : Deal) (a b : ℕ) (h s : List Entry) → Covers line_author (lines d a h) (k, lines c b s) → IsPrefix s h
+pub goes_longer : (k : ℕ) (d c : Deal) (a b : ℕ) (h s : List Entry) → Covers line_author (entry_lines d a h) (k, entry_lines c b s) → IsPrefix s h
 goes_longer k d c a b h s v = (line_entries v.0.0, sym (unmade_append c b s v.0.0) ∙ (ap line_entries v.0.1 ∙ unmade d a h))
 
-pub goes_on : (k : ℕ) (d c : Deal) (a b : ℕ) (h s : List Entry) → Covers line_author (lines d a h) (k, lines c b s) → side_entries d a k h ≡ side_entries c b k s
+pub goes_on : (k : ℕ) (d c : Deal) (a b : ℕ) (h s : List Entry) → Covers line_author (entry_lines d a h) (k, entry_lines c b s) → side_entries d a k h ≡ side_entries c b k s
 goes_on k d c a b h s v = sym (lines_by k d a h) ∙ (ap line_entries v.1 ∙ lines_by k c b s)
 
 pub all_made : (d : Deal) (a k : ℕ) (rest : List Entry) → AllByRecursion (λ e. sender_side d a e.sender ≡ k) rest
@@ -76,5 +76,5 @@ made_below : (d : Deal) (a : ℕ) (h : List Entry) → HaveAuthorsBelow line_aut
 made_below d a [] = tt
 made_below d a (e ∷ h) = (side_below d a e.sender, made_below d a h)
 
-pub lines_below : (d : Deal) (a : ℕ) (h : List Entry) → HaveAuthorsBelow line_author 3 (lines d a h)
+pub lines_below : (d : Deal) (a : ℕ) (h : List Entry) → HaveAuthorsBelow line_author 3 (entry_lines d a h)
 lines_below d a h = (omega arith, made_below d a h)

@@ -24,8 +24,8 @@ abbrev pub made_lines : Deal → ℕ → List Entry → List Line
 made_lines d a [] = []
 made_lines d a (e ∷ es) = Made (sender_side d a e.sender) e ∷ made_lines d a es
 
-abbrev pub lines : Deal → ℕ → List Entry → List Line
-lines d a h = Head d a ∷ made_lines d a h
+abbrev pub entry_lines : Deal → ℕ → List Entry → List Line
+entry_lines d a h = Head d a ∷ made_lines d a h
 
 abbrev pub line_author : Line → ℕ
 line_author (Head d a) = 2

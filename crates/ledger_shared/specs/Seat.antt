@@ -10,7 +10,7 @@ use Rattle.ledger_core.specs.Value.{LedgerState}
 use Rattle.ledger_shared.specs.declared.shelf.Line.{Line}
 use Rattle.ledger_shared.specs.declared.shelf.Shelf.{Shelf}
 use Rattle.ledger_shared.specs.declared.seat.LedgerSeat.TheInside.{Inside}
-use Rattle.ledger_shared.specs.Lines.{lines, line_entries, head_deal, head_arc, sender_side, side_entries}
+use Rattle.ledger_shared.specs.Lines.{entry_lines, line_entries, head_deal, head_arc, sender_side, side_entries}
 
 pub record SeatState : Type 0 where
   pub lock : TableId
@@ -39,19 +39,19 @@ table_seat_state lock m =
 abbrev pub inside_seat : Inside → SeatState
 inside_seat s = table_seat_state s.seat.table_id s.seat.me
 
--- with the turn or without
+-- what a seat is, with the turn or without
 abbrev pub busy_or_idle : Bool → List Line → ℕ → List Line → Sat Shelf Line
 busy_or_idle true o k h = busy o k h
 busy_or_idle false o k h = idle o k h
 
 -- What it knows are lines on the same deal and arc.
 abbrev pub HasSeatLines : SeatState → Sat Shelf Line → Type 0
-HasSeatLines s m = m ≡ busy_or_idle s.holds (lines s.deal s.arc s.shared) s.number (lines s.deal s.arc s.known)
+HasSeatLines s m = m ≡ busy_or_idle s.holds (entry_lines s.deal s.arc s.shared) s.number (entry_lines s.deal s.arc s.known)
 
 abbrev pub KnowsLines : Inside → Type 0
 KnowsLines s = HasSeatLines (inside_seat s) s.seat.me
 
--- the same seat, with the turn or without, which knows the history h
+-- the seat after it learned the history h, with the turn or without
 abbrev pub knowing : SeatState → Bool → List Entry → SeatState
 knowing s b h = record { lock = s.lock; deal = s.deal; arc = s.arc; number = s.number; holds = b; shared = s.shared; known = h }
 

@@ -51,7 +51,7 @@ mine p = party_made p.party p.seen
 abbrev pub clock_mine : ClockState → List Entry
 clock_mine p = ticks_in_order p.seen
 
--- the same pass, which has seen more
+-- the pass after it has seen more
 abbrev pub with_seen : PassState → List Entry → PassState
 with_seen p fresh = record { lock = p.lock; deal = p.deal; arc = p.arc; party = p.party; shared = p.shared; seen = p.seen ++ fresh }
 

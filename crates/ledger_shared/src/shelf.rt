@@ -22,9 +22,9 @@ pub struct Shelf {
 impl Journal for Shelf {
     type Entry = Line;
 
-    ghost use Rattle.ledger_shared.specs.Lines.{lines, line_author};
+    ghost use Rattle.ledger_shared.specs.Lines.{entry_lines, line_author};
 
-    ghost history = { λ s. lines s.ledger.value.deal s.ledger.value.arc s.ledger.value.history };
+    ghost history = { λ s. entry_lines s.ledger.value.deal s.ledger.value.arc s.ledger.value.history };
 
     ghost author = { line_author };
 

@@ -15,7 +15,7 @@ at_first seed n count g is = record {
   rest = ap (λ (s : GeneratorState). drawn_events seed (drawn_graph seed n) s.place (count - 0)) is ∙ begins seed n count;
 }
 
--- the same by what the generator itself says
+-- the events of a job are drawn by what the generator itself says
 pub at_start : (seed n count : ℕ) (g : GeneratorState) → g ≡ record { seed = seed; parties = n; place = first_place seed n }
     → HasDrawnEvents g.seed g.parties count 0 g
 at_start seed n count g is = let at = at_first seed n count g is in record {

@@ -51,7 +51,8 @@ copied count text ls = do
   s ← steps line_step (count, text) ls
   Ok s.1
 
--- the same of one line
+-- a text with one further line after it, given the line's number and how many lines stand before
+-- it, or the reason against the line
 unfoldable pub next_made_line : ℕ → List ℕ → ℕ → List ℕ → Result (List ℕ) Reason
 next_made_line count text number line = do
   s ← line_step (count, text) (number, line)

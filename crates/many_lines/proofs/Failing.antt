@@ -19,7 +19,7 @@ pub fails : {A : Type 0} (line : ℕ) (fault : Fault Misspelling) (read : Result
 fails line NoMemory read e = tt
 fails line (Refused reason) read e = rw e refl
 
--- and an event line with the names, unless it is of a crash
+-- an event line fails with the names, unless it is of a crash
 pub crash_is_bad : (line : ℕ) (names : List (List ℕ)) (fault : Fault Reason) → is_of_crash fault ≡ true
     → IsEventRefusal line names fault (Refused (bad_many_line line))
 crash_is_bad line names NoMemory is = absurd (cc is)

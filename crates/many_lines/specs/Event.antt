@@ -68,7 +68,7 @@ abbrev pub with_reason : ℕ → List (List ℕ) → Result Event Reason → Res
 with_reason line names (Ok e) = Ok e
 with_reason line names (Err reason) = Err (against_event line names reason)
 
--- the fault of such a line, or memory ran out
+-- the fault of an event's line, or memory ran out
 abbrev pub event_fault : ℕ → List (List ℕ) → Fault Reason → Fault Refusal
 event_fault line names (Refused reason) = Refused (against_event line names reason)
 event_fault line names NoMemory = NoMemory

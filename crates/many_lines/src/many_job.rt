@@ -8,7 +8,7 @@ use swap_job::Job;
 pub struct ManyJob {
     /// For each chain the names of its accounts.
     pub names: Listed<Listed<ByteText>>,
-    /// And the units that each of them has at first.
+    /// For each chain the units that each account has at first.
     pub units: Listed<Listed<u64>>,
     /// The swaps.
     pub jobs: Listed<Job>,

@@ -25,7 +25,7 @@ use Rattle.offer_events.specs.declared.raw.RawEvent.{RawEvent}
 use Rattle.offer_events.specs.declared.raw.RawEvent.TheVariants.{Tick, Look, Act}
 use Rattle.offer_events.specs.Reading.{raw_event, raw_tick_event, raw_look_event, raw_act_event}
 use Rattle.swap_base.proofs.Lists.{and_both}
-use Rattle.offer_events.specs.Event.{asked, parse_event}
+use Rattle.offer_events.specs.Event.{asked_event, parse_event}
 use Rattle.offer_events.specs.Plain.{is_plain_byte, SaysRawEvent}
 
 -- the text that a tree of printable tokens is printed as is read as that tree
@@ -183,6 +183,6 @@ act_alone line name text end plain same closed =
     let is : read text ≡ Some (object members) = reads tree text (tt, tt) (omega arith) printed ∙ refl in
     says line text members (Act name) (rw whole (ascii_plain name (34 ∷ 125 ∷ []) plain refl)) is refl
 
-pub asked_by : (job : Job) (line : ℕ) (text : List ℕ) (raw : RawEvent) → SaysRawEvent line text raw → parse_event job line text ≡ asked job line raw
+pub asked_by : (job : Job) (line : ℕ) (text : List ℕ) (raw : RawEvent) → SaysRawEvent line text raw → parse_event job line text ≡ asked_event job line raw
 unfolding parse_event
 asked_by job line text raw said = rw (said.is_object, said.says) refl

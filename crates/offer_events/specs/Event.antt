@@ -101,8 +101,8 @@ conforming_crash conforming line (Crash p k image) = if slice_index_or conformin
 conforming_crash conforming line _ = Ok tt
 
 -- the event that a line asks for by what it says
-unfoldable pub asked : Job → ℕ → RawEvent → Result Event Reason
-asked job line raw = do
+unfoldable pub asked_event : Job → ℕ → RawEvent → Result Event Reason
+asked_event job line raw = do
   event ← checked_event job line raw
   u ← outside_race line job.purpose
   w ← conforming_crash job.conforming line event
@@ -113,4 +113,4 @@ unfoldable pub parse_event : Job → ℕ → List ℕ → Result Event Reason
 parse_event job line text = do
   d ← parse_data line text
   raw ← raw_event line d
-  asked job line raw
+  asked_event job line raw

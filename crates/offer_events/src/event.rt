@@ -8,7 +8,7 @@ ghost use Rattle.swap_job.specs.Resolved.{move_arc};
 ghost use Rattle.swap_job.specs.Step.{IsJobEvent};
 ghost use Rattle.offer_moves.specs.Kept.{AreBoundedCrafters};
 ghost use Rattle.offer_events.specs.Event.{event_of_tick, event_of_look, event_of_act, permitted, event_of_call, event_of_crash, checked_event};
-ghost use Rattle.offer_events.specs.Event.{outside_race, conforming_crash, asked, parse_event, each_seeded, needs_seeds, crafted_with_seeds};
+ghost use Rattle.offer_events.specs.Event.{outside_race, conforming_crash, asked_event, parse_event, each_seeded, needs_seeds, crafted_with_seeds};
 
 use crate::plain::plain_event;
 use crate::raw::RawEvent;
@@ -218,13 +218,13 @@ fn check_crash(conforming: &[bool], line: u32, event: &Event) -> Result<(), Offe
 }
 
 /// The event that a line asks for by what it says.
-#[tactic(auto, unfolding(crate::specs::Event::asked))]
+#[tactic(auto, unfolding(crate::specs::Event::asked_event))]
 fn asked_event(alloc: Global, job: &Job, line: u32, raw: &RawEvent<'_>) -> Result<Event, OfferFault>
     requires sized { IsWellSized job.now.deal }
     requires names { length job.now.names ≡ job.now.deal.graph.n }
     requires conforming { length job.now.conforming ≡ job.now.deal.graph.n }
     requires seeds { length job.now.seeds ≡ job.now.deal.graph.n }
-    ensures exact { Gives (λ e. e) result (asked job.now line raw.now) }
+    ensures exact { Gives (λ e. e) result (asked_event job.now line raw.now) }
     ensures fits { IfOk result (λ e. needs_seeds job.now.purpose ≡ true → IsJobEvent job.now e) }
 {
     let event = check_event(alloc, job, line, raw)?;

@@ -20,7 +20,7 @@ pub by_value : {A : Type 0} (x : A) (m : Result A Reason) (P : A → Type 0) →
 by_value x (Ok y) P e p = along y x P (ok_is y x e) p
 by_value x (Err r) P e p = absurd (cc e)
 
--- and so it holds of what a function answers that gives this
+-- what holds of what a chain gives holds of the answer of a function that gives it
 pub answered : {A : Type 0} (r : Result A (Fault Reason)) (m : Result A Reason) (P : A → Type 0) → Gives (λ x. x) r m → IfOk m P → IfOk r P
 answered (Ok x) m P e p = by_value x m P e p
 answered (Err f) m P e p = tt

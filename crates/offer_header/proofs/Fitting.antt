@@ -109,7 +109,7 @@ weaker : {A E : Type 0} (r : Result A E) (P Q : A → Type 0) → ((x : A) → P
 weaker (Ok x) P Q h p = h x p
 weaker (Err e) P Q h p = tt
 
--- and so it holds of what is answered once the fields are read
+-- what holds of each header that is read holds of what is answered once the fields are read
 pub read_so : (has : List ℕ → Bool) (purpose : Purpose) (line : ℕ) (d : Data) (raw : RawHeader) (r : Result Header (Fault Reason)) (Q : Header → Type 0)
     → object_header purpose line d ≡ Ok raw → Gives (λ h. h) r (resolve_header has purpose line raw) → ((h : Header) → IsRead has purpose line h → Q h) → IfOk r Q
 read_so has purpose line d raw r Q e g h =

@@ -65,7 +65,7 @@ count_parties version sizes names line parties = do
   u ← check_range line (codes "parties") 2 (most_parties version) (length parties)
   collected_results (parse_acting sizes names line) parties
 
--- and so is that of each role
+-- each role's strategy is held
 abbrev pub HoldsEach : (List ℕ → Bool) → List Role → Type 0
 HoldsEach has roles = All (IsHeld has) roles
 

@@ -29,17 +29,17 @@ unfoldable pub is_name : List ℕ → Bool
 is_name name = nat_le 1 (length name) && nat_le (length name) 16 && list_all is_name_byte name
 
 -- the name is that of some party in the header, whatever its form
-unfoldable pub known : ℕ → List (List ℕ) → List ℕ → Result (Unit {0}) Reason
-known line all name = if list_any (bytes_eq name) all then Ok tt else Err (Unknown line name)
+unfoldable pub known_name : ℕ → List (List ℕ) → List ℕ → Result (Unit {0}) Reason
+known_name line all name = if list_any (bytes_eq name) all then Ok tt else Err (Unknown line name)
 
 unfoldable pub all_known : ℕ → List (List ℕ) → List (List ℕ) → Result (Unit {0}) Reason
-all_known line all names = steps (λ u name. known line all name) tt names
+all_known line all names = steps (λ u name. known_name line all name) tt names
 
 -- the names in a move are those of parties
 abbrev pub move_known : ℕ → List (List ℕ) → RawMove → Result (Unit {0}) Reason
 move_known line all (Craft n craft) = all_known line all craft.via
 move_known line all (Raw n key) = all_known line all key.path
-move_known line all (Transfer n to units) = known line all to
+move_known line all (Transfer n to units) = known_name line all to
 move_known line all _ = Ok tt
 
 -- where these are the names of the strategies there is one of that name

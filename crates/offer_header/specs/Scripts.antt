@@ -19,7 +19,7 @@ abbrev pub role_placed : List ArcEnds → List Bool → ℕ → ℕ → Role →
 role_placed arcs conforming line p (Script moves) = steps (λ u mv. placed arcs conforming line p mv) tt moves
 role_placed arcs conforming line p _ = Ok tt
 
--- and so may the parties after it
+-- party p and the parties after it may make each move of their scripts where it stands
 unfoldable pub roles_placed : List ArcEnds → List Bool → ℕ → ℕ → List Role → Result (Unit {0}) Reason
 roles_placed arcs conforming line p [] = Ok tt
 roles_placed arcs conforming line p (role ∷ roles) = do

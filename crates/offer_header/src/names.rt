@@ -7,7 +7,7 @@ ghost use Rattle.swap_base.specs.Fault.{Gives, steps};
 ghost use Rattle.offer_fields.specs.Lists.{collected_results};
 ghost use Rattle.offer_fields.specs.Names.{party_of_name};
 ghost use Rattle.offer_header.specs.Names.{has_strategy, strategy_known};
-ghost use Rattle.offer_header.specs.Names.{is_name, is_name_byte, known, all_known, move_known, actor_known, name_added, name_step};
+ghost use Rattle.offer_header.specs.Names.{is_name, is_name_byte, known_name, all_known, move_known, actor_known, name_added, name_step};
 ghost use Rattle.offer_header.specs.Names.{with_name, names_stated, named_ends, leader_step, assign_checked_numbers, resolve_numbers, numbered_header};
 
 use crate::raw::{RawActor, RawArc, RawHeader, RawLeader, RawParty};
@@ -84,14 +84,14 @@ fn state_names<'h>(names: &mut IndexSet<&'h [u8]>, parties: &[RawParty<'h>]) -> 
 }
 
 /// A name is that of some party in the header.
-#[tactic(auto, using(swap_base::proofs::Steps::any_map), unfolding(crate::specs::Names::known))]
+#[tactic(auto, using(swap_base::proofs::Steps::any_map), unfolding(crate::specs::Names::known_name))]
 fn check_known(
     alloc: Global,
     line: u32,
     all: &IndexSet<&[u8]>,
     name: &[u8],
 ) -> Result<(), OfferFault>
-    ensures { Gives (λ u. u) result (known line (map (λ k. k.now) all.now.keys) name.now) }
+    ensures { Gives (λ u. u) result (known_name line (map (λ k. k.now) all.now.keys) name.now) }
 {
     if all.contains(&name) {
         return Ok(());
@@ -356,7 +356,8 @@ fn resolve_numbers(
     })
 }
 
-/// The same, where all names that the header states are known.
+/// The arcs and the leaders by the numbers of their names, where all names that the header states
+/// are known.
 fn assign_checked_numbers(
     alloc: Global,
     strategies: &[ByteText],

@@ -23,7 +23,7 @@ pub fn check_deviator(line: u32, is_conforming: bool) -> Result<(), OfferFault>
     Ok(())
 }
 
-/// A party stands on an arc of which it is one of the two.
+/// Lets a party stand on an arc that leaves it or enters it, and refuses any other.
 #[tactic(auto, unfolding(crate::specs::Placed::adjacent))]
 pub fn check_adjacent(arcs: &[ArcEnds], line: u32, p: PartyId, arc: ArcId) -> Result<(), OfferFault>
     requires arc { arc < length arcs.now }

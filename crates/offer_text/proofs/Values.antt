@@ -38,7 +38,8 @@ pub below_optional : {A : Type 0} (name field : List ℕ) (f : A → Data) (o : 
 below_optional name field f None ms first rest = rest
 below_optional name field f (Some x) ms first rest = first
 
--- the same of fields that were put so
+-- a field that stands before the fields of a list stands before them also after an optional field
+-- was put there
 pub below_with : {A : Type 0} (name field : List ℕ) (f : A → Data) (o : Option A) (before after : Members) → after ≡ with_optional field f o before
     → slice_cmp nat_cmp name field ≡ Less → IsBelow name before → IsBelow name after
 below_with name field f o before after e first rest = subst (IsBelow name) (sym e) (below_optional name field f o before first rest)

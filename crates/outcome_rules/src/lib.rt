@@ -1,5 +1,5 @@
-//! What a book comes to: how each party ended, what is found, and the report of both (Herlihy 2018,
-//! section 3).
+//! The outcome of a book: how each party ended, what is found, and the report of both (Herlihy
+//! 2018, section 3).
 //!
 //! A book is read once, into one index per arc; all else asks the indexes.
 //!

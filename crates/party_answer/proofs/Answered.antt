@@ -41,7 +41,7 @@ use Rattle.party_answer.specs.declared.reason.AnswerReason.{AnswerReason}
 use Rattle.party_answer.specs.Asked.{PartyQuestion, known}
 use Rattle.party_answer.specs.Unkept.{is_lock_unkept}
 use Rattle.party_answer.specs.Lines.{untimed, Line, Present, KeepFirst, Landing}
-use Rattle.party_answer.specs.Text.{answerable, answered, answered_calls, due_text, kept_keys, lines, own_wallet, question_answer, unkept, useful_actions, was_published}
+use Rattle.party_answer.specs.Text.{answerable, answered, answered_calls, due_text, kept_keys, answered_lines, own_wallet, question_answer, unkept, useful_actions, was_published}
 use Rattle.party_answer.specs.Promised.{MayBeMade, MayBeKept, CanOnlyHurt, IsLockUnkept, IsLeftOutAction, IsWithinRest, HasLastHeight, own_timed, IsPromisedAnswer}
 use Rattle.party_answer.proofs.Members.{from_map, Parts, ToPresent, ToKeep, ToLand, parts, from_lines, to_present, to_keep, never_empty}
 
@@ -116,7 +116,7 @@ module _ (q : PartyQuestion) (sound : IsSound q) where
     pub within : IsElement call (answered_calls q)
     pub says : Parts (kept_keys q) (was_published q) call y
 
-  said : (y : Line) → IsElement y (lines q) → Said y
+  said : (y : Line) → IsElement y (answered_lines q) → Said y
   said y i =
       let f = from_lines (kept_keys q) (was_published q) (answered_calls q) y i in
       record { call = f.0; within = f.1; says = subst (Parts (kept_keys q) (was_published q) f.0) f.2 (parts (kept_keys q) (was_published q) f.0) }
@@ -177,20 +177,20 @@ module _ (q : PartyQuestion) (sound : IsSound q) where
       go (inl j) = by_stop (stopped_or x j (is_stopped_call (is_lock_unkept (unkept q)) x.call) refl)
       go (inr harm) = inr (inl harm)
 
-  all_made : (x : Action) → MayBeMade q x → was_sent (was_published q) x ≡ false → IsElement (Present (own_timed q x)) (lines q) ⊎ IsLeftOutAction q x
+  all_made : (x : Action) → MayBeMade q x → was_sent (was_published q) x ≡ false → IsElement (Present (own_timed q x)) (answered_lines q) ⊎ IsLeftOutAction q x
   all_made x may s = go (answered_or x (MayGo.is_due may))
     where
-      go : IsElement x (answered q) ⊎ IsLeftOutAction q x → IsElement (Present (own_timed q x)) (lines q) ⊎ IsLeftOutAction q x
+      go : IsElement x (answered q) ⊎ IsLeftOutAction q x → IsElement (Present (own_timed q x)) (answered_lines q) ⊎ IsLeftOutAction q x
       go (inr out) = inr out
       go (inl i) =
           inl (to_present (kept_keys q) (was_published q) (answered_calls q) (own_timed q x) (to_calls x i) s (MayGo.was_kept may))
 
   each_kept : (key : Hashkey) (may : MayBeKept q key)
-      → ((t : Timed) × (other : Hashkey) × IsElement (KeepFirst t other) (lines q) × (other.lock ≡ key.lock)) ⊎ IsLeftOutAction q (MayKeep.unlock may)
+      → ((t : Timed) × (other : Hashkey) × IsElement (KeepFirst t other) (answered_lines q) × (other.lock ≡ key.lock)) ⊎ IsLeftOutAction q (MayKeep.unlock may)
   each_kept key may = go (answered_or (MayKeep.unlock may) (MayKeep.is_due may))
     where
       go : IsElement (MayKeep.unlock may) (answered q) ⊎ IsLeftOutAction q (MayKeep.unlock may)
-          → ((t : Timed) × (other : Hashkey) × IsElement (KeepFirst t other) (lines q) × (other.lock ≡ key.lock)) ⊎ IsLeftOutAction q (MayKeep.unlock may)
+          → ((t : Timed) × (other : Hashkey) × IsElement (KeepFirst t other) (answered_lines q) × (other.lock ≡ key.lock)) ⊎ IsLeftOutAction q (MayKeep.unlock may)
       go (inr out) = inr out
       go (inl i) =
           let unlock = kept_state (kept_keys q) (MayKeep.unlock may) key (MayKeep.asks may) in

@@ -35,7 +35,7 @@ pub record SaidState : Type 0 where
   pub notes : NotesState
   pub agreed : AgreedState
 
--- what lines say, the first of which has that number, and the lines behind
+-- what the lines before the ledgers say, and the lines behind them; the first line has that number
 unfoldable pub lines_said : ℕ → List (List ℕ) → Result (SaidState × List (List ℕ)) Refusal
 lines_said first ls = do
   told ← agreed_line first ls
@@ -96,6 +96,6 @@ said_asked first name seed s = do
 unfoldable pub asked : ℕ → List ℕ → List ℕ → List ℕ → Result PartyQuestion AnswerReason
 asked first name seed text = by_refusal (text_said first text) >>= said_asked first name seed
 
--- the same of lines, the first of which has that number
+-- what lines ask, where the first line has that number
 abbrev pub lines_asked : ℕ → List ℕ → List ℕ → List (List ℕ) → Result PartyQuestion AnswerReason
 lines_asked first name seed ls = by_refusal (lines_said first ls) >>= said_asked first name seed

@@ -1,4 +1,4 @@
--- What a wallet's notes come to for a party of a deal.
+-- What a wallet's notes keep for a party of a deal.
 use Rattle.std.specs.Prelude.{ℕ, Bool, true, false, ◌&&◌, ◌||◌, nat_lt, List, [], ◌∷◌, ◌++◌, length, replicate, slice_set, Option, Some, None, is_none}
 use Rattle.std.specs.Prelude.{Result, Ok, Err, if◌then◌else◌}
 use Rattle.swap_base.specs.Fault.{◌>>=◌}
@@ -50,17 +50,17 @@ may_be_kept d v before key = is_first_key before key || (is_none before && opens
 abbrev pub is_keepable : Deal → ℕ → List (Option Hashkey) → Hashkey → Bool
 is_keepable d v keys key = nat_lt key.lock (length d.leaders) && may_be_kept d v (signed_hashkey keys key.lock) key
 
--- with the note of line n
+-- what is kept with the note of line n
 abbrev pub with_note : Deal → ℕ → ℕ → KeptState → Note → Result KeptState Refusal
 with_note d v n k (Keep key) =
     if is_keepable d v k.keys key then Ok (record { keys = slice_set k.keys key.lock (Some key); sent = k.sent }) else Err (nameless (BadLine n))
 with_note d v n k (Sent a) = if is_listed a (leaving d.graph v) then Ok (record { keys = k.keys; sent = k.sent ++ a ∷ [] }) else Err (nameless (BadLine n))
 
--- with these notes, the first of which is line n
+-- what is kept with further notes, where the first of them is line n
 abbrev pub with_notes : Deal → ℕ → ℕ → KeptState → List Note → Result KeptState Refusal
 with_notes d v n k [] = Ok k
 with_notes d v n k (x ∷ xs) = with_note d v n k x >>= λ next. with_notes d v (following_line_number n) next xs
 
--- what the notes come to, the first of which is line n
+-- what notes keep, where the first of them is line n
 unfoldable pub notes_kept : Deal → ℕ → ℕ → List Note → Result KeptState Refusal
 notes_kept d v n notes = with_notes d v n (no_notes_kept d) notes

@@ -68,14 +68,14 @@ pub record NotesState : Type 0 where
 abbrev pub notes_behind : ℕ → List Note → List (List ℕ) → Result (NotesState × List (List ℕ)) Refusal
 notes_behind n list ls = Ok (record { list = list; next = n }, ls)
 
--- with the notes that stand first among these lines, of which the first has the number n, and the
--- lines behind them
+-- the notes so far with those that stand first among further lines, and the lines behind these; the
+-- first of the further lines has the number n
 abbrev pub with_lines : ℕ → List Note → List (List ℕ) → Result (NotesState × List (List ℕ)) Refusal
 with_lines n list [] = notes_behind n list []
 with_lines n list (l ∷ ls) =
     if is_note l then (line_noted n l >>= λ x. with_lines (following_line_number n) (list ++ x ∷ []) ls) else notes_behind n list (l ∷ ls)
 
--- the notes that stand first among lines, of which the first has the number n, and the lines behind
--- them
+-- the notes that stand first among lines, and the lines behind them; the first line has the number
+-- n
 unfoldable pub notes_read : ℕ → List (List ℕ) → Result (NotesState × List (List ℕ)) Refusal
 notes_read n ls = with_lines n [] ls

@@ -27,7 +27,7 @@ use Rattle.party_answer.specs.Asked.{PartyQuestion, SaidState, asked, known, tex
 use Rattle.party_answer.specs.Unkept.{is_lock_unkept}
 use Rattle.party_answer.specs.declared.timed.Timed.{Timed}
 use Rattle.party_answer.specs.Lines.{Present, KeepFirst, Landing, timed, untimed}
-use Rattle.party_answer.specs.Text.{answerable, answered, answered_calls, due_text, kept_keys, lines, own_wallet, question_answer, unkept, useful_actions, was_published}
+use Rattle.party_answer.specs.Text.{answerable, answered, answered_calls, due_text, kept_keys, answered_lines, own_wallet, question_answer, unkept, useful_actions, was_published}
 
 -- what the wallet hands over
 abbrev pub own_asking : PartyQuestion → Asking
@@ -81,23 +81,23 @@ pub record IsPromisedAnswer (asks : Result PartyQuestion AnswerReason) (answer :
   pub wallet : IsWallet question.deal question.me (own_wallet question)
   pub legal : IsLegalBook question.deal (known question)
   -- each call in it may go out and is useful, and no publish in it was sent
-  pub go : (t : Timed) → IsElement (Present t) (lines question) → MayBeMade question (untimed t)
-  pub once : (t : Timed) → IsElement (Present t) (lines question) → was_sent (was_published question) (untimed t) ≡ false
-  pub helps : (t : Timed) → IsElement (Present t) (lines question) → IsElement (untimed t) (useful_actions question (known question))
+  pub go : (t : Timed) → IsElement (Present t) (answered_lines question) → MayBeMade question (untimed t)
+  pub once : (t : Timed) → IsElement (Present t) (answered_lines question) → was_sent (was_published question) (untimed t) ≡ false
+  pub helps : (t : Timed) → IsElement (Present t) (answered_lines question) → IsElement (untimed t) (useful_actions question (known question))
   -- each hashkey in it may be kept
-  pub keep : (t : Timed) (key : Hashkey) → IsElement (KeepFirst t key) (lines question) → MayBeKept question key
+  pub keep : (t : Timed) (key : Hashkey) → IsElement (KeepFirst t key) (answered_lines question) → MayBeKept question key
   -- each publish that is landing is useful, and was sent
-  pub landing : (a : ℕ) → IsElement (Landing a) (lines question)
+  pub landing : (a : ℕ) → IsElement (Landing a) (answered_lines question)
       → (x : Action) × IsElement x (useful_actions question (known question)) × (was_sent (was_published question) x ≡ true) × (x.arc ≡ a)
   -- nothing that may is left out but publishes that were sent, calls that can only hurt the party,
   -- and unlocks for a lock with an unlock in its name that it never made; of another lock for which
   -- a hashkey may be kept it has one
   pub all : (x : Action) → MayBeMade question x → was_sent (was_published question) x ≡ false
-      → IsElement (Present (own_timed question x)) (lines question) ⊎ IsLeftOutAction question x
+      → IsElement (Present (own_timed question x)) (answered_lines question) ⊎ IsLeftOutAction question x
   pub each : (key : Hashkey) (may : MayBeKept question key)
-      → ((t : Timed) × (other : Hashkey) × IsElement (KeepFirst t other) (lines question) × (other.lock ≡ key.lock)) ⊎ IsLeftOutAction question (MayKeep.unlock may)
-  -- the same is useful over any histories of which what is told says enough, so noise may be left
-  -- out
+      → ((t : Timed) × (other : Hashkey) × IsElement (KeepFirst t other) (answered_lines question) × (other.lock ≡ key.lock)) ⊎ IsLeftOutAction question (MayKeep.unlock may)
+  -- where the told ledgers say enough of some histories, the same actions are useful over these, so
+  -- noise may be left out
   pub heard : (h : Histories) → SayEnough question.deal question.me (known question) h → useful_actions question h ≡ useful_actions question (known question)
   -- where nothing is useful, or nothing is answered, that stays so as a ledger ticks on, up to the
   -- height at which rest ends

@@ -65,8 +65,8 @@ abbrev pub answered_calls : PartyQuestion → List Timed
 answered_calls q = map (timed q.deal (known q) q.me) (answered q)
 
 -- line by line
-abbrev pub lines : PartyQuestion → List Line
-lines q = call_lines (kept_keys q) (was_published q) None (answered_calls q)
+abbrev pub answered_lines : PartyQuestion → List Line
+answered_lines q = call_lines (kept_keys q) (was_published q) None (answered_calls q)
 
 -- ---- of ledgers that can't be told on
 
@@ -82,7 +82,7 @@ abbrev pub bad_entry_line : ℕ → Option BadEntry → List ℕ
 bad_entry_line a None = []
 bad_entry_line a (Some b) = bad_text a b
 
--- the bad entries of ledgers, the first of which is that of arc a
+-- the bad entries of ledgers, where the first ledger is that of arc a
 abbrev pub bad_lines : ℕ → List ToldLedger → List ℕ
 bad_lines a [] = []
 bad_lines a (t ∷ ts) = bad_entry_line a t.bad ++ bad_lines (a + 1) ts
@@ -146,7 +146,7 @@ warning_text q = bad_lines 0 q.ledgers ++ flat_map unkept_text (unkept q)
 
 -- the calls, or that there is none
 unfoldable pub due_text : PartyQuestion → List ℕ
-due_text q = flat_map (line_text q.me) (lines q) ++ end_text q.deal (known q) q.me (answered_calls q)
+due_text q = flat_map (line_text q.me) (answered_lines q) ++ end_text q.deal (known q) q.me (answered_calls q)
 
 -- a ledger has a bad entry, or an unlock stands in the party's name that it never made
 unfoldable pub warns : PartyQuestion → Bool
@@ -160,7 +160,7 @@ question_answer q = record { text = warning_text q ++ due_text q; warns = warns 
 abbrev pub said_answer : ℕ → List ℕ → List ℕ → SaidState × List (List ℕ) → Result Answer AnswerReason
 said_answer first name seed s = said_asked first name seed s >>= λ q. Ok (question_answer q)
 
--- the answer to lines, the first of which has that number
+-- the answer to lines, where the first line has that number
 abbrev pub lines_answer : ℕ → List ℕ → List ℕ → List (List ℕ) → Result Answer AnswerReason
 lines_answer first name seed ls = by_refusal (lines_said first ls) >>= said_answer first name seed
 

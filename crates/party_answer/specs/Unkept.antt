@@ -19,12 +19,12 @@ with_unlock kept a us x =
     if is_first_key (kept x.key.lock) x.key || has_lock us a x.key.lock then us
     else us ++ record { arc = a; entry = x.entry; lock = x.key.lock } ∷ []
 
--- with these unlocks on arc a
+-- the list with the unkept ones of these unlocks on arc a
 abbrev pub with_unlocks : (ℕ → Option Hashkey) → ℕ → List Unkept → List OwnUnlock → List Unkept
 with_unlocks kept a us [] = us
 with_unlocks kept a us (x ∷ xs) = with_unlocks kept a (with_unlock kept a us x) xs
 
--- with those of these ledgers, the first of which is that of arc a
+-- the list with the unkept unlocks of further ledgers, where the first ledger is that of arc a
 abbrev pub with_ledgers : (ℕ → Option Hashkey) → ℕ → List Unkept → List ToldLedger → List Unkept
 with_ledgers kept a us [] = us
 with_ledgers kept a us (t ∷ ts) = with_ledgers kept (a + 1) (with_unlocks kept a us t.unlocks) ts

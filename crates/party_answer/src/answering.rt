@@ -168,7 +168,7 @@ fn answer_said(
     Ok(answer_asked(alloc, seed, &asked)?)
 }
 
-/// The answer to lines, the first of which has that number.
+/// The answer to lines, where the first line has that number.
 fn answer_lines(
     alloc: Global,
     first: u32,

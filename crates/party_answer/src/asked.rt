@@ -1,4 +1,4 @@
-//! What an input asks: who, of which deal, over which ledgers, with which notes.
+//! What an input asks: who asks, about which deal, over which ledgers and with which notes.
 
 ghost use Rattle.std.specs.Prelude.{◌≡◌, ◌<◌, IfOk, OnOk, None, length};
 ghost use Rattle.std.specs.Str.{bytes_eq};
@@ -66,7 +66,7 @@ fn wrong_lock(
     requires me { me < deal.now.graph.n }
     ensures { IfOk result (λ o. o ≡ least_wrong deal.now me seed.now) }
 {
-    let wallet = Wallet::of(alloc, seed, me, deal)?;
+    let wallet = Wallet::for_deal(alloc, seed, me, deal)?;
     Ok(wallet.wrong_lock(deal))
 }
 
@@ -111,7 +111,7 @@ fn party_asked(
     Ok((me, kept))
 }
 
-/// The same, with the fault that answers.
+/// The party of that name with that seed, and what it kept and sent, or the answer's fault.
 fn party(
     alloc: Global,
     first: u32,

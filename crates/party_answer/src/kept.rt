@@ -1,4 +1,4 @@
-//! What notes come to.
+//! What a party's notes keep.
 
 ghost use Rattle.std.specs.Prelude.{◌≡◌, ◌<◌, true, IfOk, length, option_copied, replicate, None};
 ghost use Rattle.swap_base.specs.Fault.{Gives};
@@ -136,7 +136,7 @@ fn none_kept(alloc: Global, locks: u8) -> Result<Vec<Option<Shared<Hashkey>>>, N
     Ok(keys)
 }
 
-/// Adds notes, the first of which is the line of that number.
+/// Adds what notes keep. The first note stands on the line of that number.
 fn add_notes(
     deal: &Deal,
     me: PartyId,
@@ -162,10 +162,10 @@ fn add_notes(
     Ok(())
 }
 
-/// What a party's notes come to, the first of which is the line of that number: or the first line
-/// that notes a hashkey which it can't have kept (of no lock of the deal, another one for a lock
-/// that has one, or one that opens nothing, as a torn line's), or a publish on an arc that doesn't
-/// leave it.
+/// What a party's notes keep. The first note stands on the line of that number. The answer is the
+/// first bad line where a note is of a hashkey that the party can't have kept (of no lock of the
+/// deal, another one for a lock that has one, or one that opens nothing, as a torn line's), or of a
+/// publish on an arc that doesn't leave the party.
 #[tactic(auto, unfolding(crate::specs::Kept::notes_kept))]
 pub fn notes_kept(
     alloc: Global,

@@ -32,8 +32,8 @@ fn next_note<'a>(lines: &mut Parts<'a>) -> Option<&'a [u8]>
     }
 }
 
-/// The notes that stand first among lines, of which the first has that number. The other lines
-/// stay.
+/// Takes the notes that stand first among lines. The first line has that number, and the lines
+/// behind the notes stay.
 #[tactic(auto, unfolding(crate::specs::Notes::notes_read))]
 pub fn read_notes(alloc: Global, first: u32, lines: &mut Parts<'_>) -> Result<Notes, HeaderFault>
     ensures { TakesFirstLine notes_state result lines.new (notes_read first lines.old) }

@@ -23,7 +23,7 @@ pub struct Said {
     pub agreed: Agreed,
 }
 
-/// Takes the lines before the first ledger, the first of which has that number.
+/// Takes the lines before the first ledger. The first of these lines has that number.
 #[tactic(auto, unfolding(crate::specs::Asked::lines_said))]
 pub(crate) fn read_said(
     alloc: Global,

@@ -38,6 +38,6 @@ read_seed_line number line = digest_told (codes "seed") number line
 abbrev pub seed_line : ℕ → List (List ℕ) → Result (List ℕ × List (List ℕ)) Refusal
 seed_line number ls = digest_line (codes "seed") number ls
 
--- the same of the digest that was agreed on
+-- the agreed digest that the first of these lines tells, and the lines after it
 abbrev pub agreed_line : ℕ → List (List ℕ) → Result (List ℕ × List (List ℕ)) Refusal
 agreed_line number ls = digest_line (codes "agreed") number ls

@@ -140,7 +140,7 @@ new_is c d v w known ec ew ek =
     let k : all_entries known ≡ replicate (length d.graph.arcs) [] = entries_new d known ek in
     rw (ec, p, s, k) refl
 
--- a wallet that was made anew for the party and the deal
+-- a wallet that was just made for the party and the deal
 
 pub make_seed : (d : Deal) (v : ℕ) (seed : List ℕ) (f : WalletState) → f ≡ new_wallet seed v d → f.seed ≡ seed
 make_seed d v seed f is = ap (λ (w : WalletState). w.seed) is
@@ -167,7 +167,7 @@ partys_recorded d w w' recorded r ew places locks = subst (IsPartyWallet d) (sym
   locks = locks;
 })
 
--- the same machine with recorded hashkeys in its wallet
+-- a machine stays ready with recorded hashkeys in its wallet
 pub restored_ready : (d : Deal) (w w' : WalletState) (known : List IndexState) (recorded : List (Option Hashkey)) → IsReadyWallet d w known
     → w' ≡ with_recorded w recorded → length recorded ≡ length d.leaders
     → ((i : ℕ) (k : Hashkey) → signed_hashkey recorded i ≡ Some k → k.lock ≡ i) → IsReadyWallet d w' known

@@ -146,7 +146,7 @@ module _ (mine theirs new : List (Option Hashkey)) (o : Option (ℕ × Call)) (s
   pub answer_new : (k : Hashkey) → Some k ≡ new_key theirs (option_map due_action o) → IsNew theirs new k
   answer_new k is = is_new theirs new o k noted_theirs as_long answer_placed (sym is)
 
-  -- and it is then signed
+  -- the machine's answer is then signed
   pub answer_signed : (k : Hashkey) → Some k ≡ new_key theirs (option_map due_action o) → signed_hashkey new k.lock ≡ Some k
   answer_signed k is =
       let n = answer_new k is in

@@ -43,7 +43,8 @@ abbrev pub resumed_or : Deal → ℕ → List ℕ → List (Option Hashkey) → 
 resumed_or d v seed signed None = Ok (resumed_machine d v seed signed)
 resumed_or d v seed signed (Some i) = Err (WrongWallet i)
 
--- the same, or the least lock for which the wallet lacks what the deal states of v
+-- the machine of v with the hashkeys that it signed before, or the least lock for which the wallet
+-- lacks what the deal states of v
 abbrev pub resumed_if_fitting : Deal → ℕ → WalletState → List (Option Hashkey) → Result MachineState Misfit
 resumed_if_fitting d v w signed = resumed_or d v w.seed signed (find_wrong_lock d v w)
 

@@ -39,7 +39,8 @@ abbrev pub IsCallRecorded : (List ℕ → Type 0) → Call → Type 0
 IsCallRecorded outcomes (Unlock key) = (c : List ℕ) → outcomes c → recorded c key.lock ≡ Some key
 IsCallRecorded outcomes _ = Unit {0}
 
--- the same of what a machine answers
+-- each of these outcomes has recorded the hashkey of the unlock that a machine answers, if it
+-- answers one
 abbrev pub IsRecorded : (List ℕ → Type 0) → Option (ℕ × Call) → Type 0
 IsRecorded outcomes None = Unit {0}
 IsRecorded outcomes (Some x) = IsCallRecorded outcomes x.1

@@ -16,8 +16,8 @@ pub(crate) enum Rest {
 }
 
 impl Rest {
-    /// What is left of rest once more entries of a ledger, ticks or not, have brought it to that
-    /// height.
+    /// What is left of rest after further entries of a ledger, ticks or not, have brought it to
+    /// that height.
     pub(crate) fn remaining_rest(self, ticks: bool, height: u32) -> Rest
         ensures { result ≡ remaining_rest self ticks height }
     {

@@ -18,7 +18,7 @@ use swap_io::{ReadAllFault, Sink, Source, read_all, write_all};
 pub enum PartyStatus {
     /// What is written was written whole.
     Done,
-    /// The same, and a line of it tells of something that should not be.
+    /// What is written was written whole, and a line of it tells of something that should not be.
     Warned,
     WrongWords,
     /// The first reason against the input; nothing was written.

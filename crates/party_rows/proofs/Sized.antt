@@ -144,7 +144,7 @@ module _ (rows : List (Option Row)) (d : Deal) (k : IsProposed d) (are : AreDeal
       rows_accepted (record d { hashlocks = hs; keys = ks; timelocks = ts; id = id })
       (ap (λ (x : List ℕ). record d { hashlocks = hs; keys = ks; timelocks = ts; id = x }) ei ∙ ap (λ (y : Deal). record y { id = deal_id y }) filled)
 
-  -- and so is the deal with its id
+  -- the deal with its id is well sized
   pub dealt_is_sized : IsWellSized (dealt_deal rows d)
   unfolding dealt_deal
   dealt_is_sized =

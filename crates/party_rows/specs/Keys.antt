@@ -22,7 +22,8 @@ row_of_name name seed job = do
   p ← party_named 2 job.names name
   Ok (row_line name (seeded_row seed p job.deal))
 
--- the same of lines behind that of the seed: the offer's, and no other
+-- the line of the row that a seed gives the party of that name in the deal of these lines, which
+-- are an offer's line and no other
 unfoldable pub row_from_lines : List ℕ → List ℕ → List (List ℕ) → Result (List ℕ) Refusal
 row_from_lines name seed ls = do
   offer ← first_line ls

@@ -19,8 +19,7 @@ seeded_rows seeds d = map (λ p. Some (seeded_row (seed_or_zeros seeds p) p d)) 
 abbrev pub DealtIsMade : Type 0
 DealtIsMade = (seeds : List (Option (List ℕ))) (d : Deal) → IsProposed d → dealt_deal (seeded_rows seeds d) d ≡ made_deal seeds d
 
--- So the line of the deal is the header line of the job that `make` makes, as a transcript shows
--- it.
+-- The line of the deal is the header line of the job that `make` makes, as a transcript shows it.
 abbrev pub DealtLineIsMade : Type 0
 DealtLineIsMade =
     (seeds : List (Option (List ℕ))) (job : Job) → IsProposed job.deal

@@ -49,7 +49,7 @@ right_hashlock line leads row =
 unfoldable pub right_keys : ℕ → Deal → Row → Result (Unit {0}) Refusal
 right_keys line d row = named_result [] (check_range line (codes "keys") (keys_wanted d.mode d) (keys_wanted d.mode d) (length row.keys))
 
--- with the row of party p, which the line of that number gives
+-- the rows with that of party p, which the line of that number gives
 unfoldable pub with_party_row : Job → ℕ → List (Option Row) → ℕ → NamedRow → Result (List (Option Row)) Refusal
 with_party_row job line rows p r = do
   u ← check_first line r.name (find_row rows p)
@@ -57,14 +57,14 @@ with_party_row job line rows p r = do
   w ← right_keys line job.deal r.row
   Ok (slice_set rows p (Some r.row))
 
--- with the row that a line gives
+-- the rows with the one that a line gives
 unfoldable pub with_row : Job → ℕ → List (Option Row) → List ℕ → Result (List (Option Row)) Refusal
 with_row job line rows text = do
   r ← or_bad_line line (parse_row text)
   p ← party_named line job.names r.name
   with_party_row job line rows p r
 
--- with the rows that lines give, the first of which has that number
+-- the rows with those that lines give, where the first line has that number
 abbrev pub with_rows : Job → ℕ → List (Option Row) → List (List ℕ) → Result (List (Option Row)) Refusal
 with_rows job line rows [] = Ok rows
 with_rows job line rows (l ∷ ls) = with_row job line rows l >>= λ more. with_rows job (following_line_number line) more ls

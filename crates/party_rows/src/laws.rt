@@ -7,7 +7,8 @@ pub fn dealt_is_made()
     ensures { DealtIsMade }
 {}
 
-/// So its line is the header line of the job that is made, as a transcript shows it.
+/// The line of a deal that is dealt is the header line of the job that is made, as a transcript
+/// shows it.
 pub fn dealt_line_is_made()
     ensures { DealtLineIsMade }
 {}

@@ -3,7 +3,7 @@
 //!
 //! Read `specs/Keys.antt` first: `keys_output` and `deal_output` say what is written of a text, or
 //! the first reason against it; then `specs/Offer.antt`, `specs/Row.antt`, `specs/Rows.antt` and
-//! `specs/Dealt.antt`, which say what a plain offer and rows are, and what they come to;
+//! `specs/Dealt.antt`, which say what a plain offer and rows are, and which deal they make;
 //! `specs/Laws.antt` has the law.
 #![tactic(auto)]
 

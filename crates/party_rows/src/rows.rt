@@ -145,7 +145,7 @@ fn add_row(
     add_party_row(alloc, job, line, rows, party, said)
 }
 
-/// Adds the rows that lines give, the first of which has that number.
+/// Adds the rows that lines give. The first line has that number.
 fn add_rows(
     alloc: Global,
     job: &Job,

@@ -30,7 +30,8 @@ fn row_of_name(
     Ok(row_line(alloc, name, &row)?)
 }
 
-/// The same by the lines behind that of the seed: the offer's, and no other.
+/// The line of the row by the lines behind that of the seed, which are the offer's line and no
+/// other.
 #[tactic(auto, unfolding(crate::specs::Keys::row_from_lines))]
 fn row_from_lines(
     alloc: Global,
@@ -72,7 +73,8 @@ pub fn keys(alloc: Global, name: &[u8], text: &[u8]) -> Result<ByteText, HeaderF
     keys_from_lines(alloc, name, &mut lines)
 }
 
-/// The same by the seed and a text of one line, the offer's, whose number is 2.
+/// The row of the party of that name, by its seed and a text of one line, which is the offer's and
+/// has the number 2.
 #[tactic(auto, unfolding(crate::specs::Keys::own_row_output))]
 pub fn own_row(
     alloc: Global,

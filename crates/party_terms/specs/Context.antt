@@ -33,7 +33,7 @@ context_arc arcs ws = do
   text ← parse_first_field nonempty_word arc.1
   Ok arc.0
 
--- the arc of which a line tells something
+-- the arc that a line tells something about
 unfoldable pub parse_context_line : ℕ → List ℕ → Result ℕ Misspelling
 parse_context_line arcs line = if is_plain_line line then context_arc arcs (separated_parts 32 line) else misspelt
 
@@ -59,8 +59,8 @@ is_context_line line = begins_context (separated_parts 32 line)
 abbrev pub context_end : ℕ → List ContextLine → List (List ℕ) → Result (Context × List (List ℕ)) Refusal
 context_end number list ls = Ok (record { list = list; next = number }, ls)
 
--- with the lines of context that stand first among these, and the lines behind them; the first of
--- these has that number
+-- the list with the lines of context that stand first among further lines, and the lines behind
+-- them; the first of the further lines has that number
 abbrev pub with_context_lines : ℕ → ℕ → List ContextLine → List (List ℕ) → Result (Context × List (List ℕ)) Refusal
 with_context_lines arcs number list [] = context_end number list []
 with_context_lines arcs number list (l ∷ ls) =

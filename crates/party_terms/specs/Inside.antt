@@ -10,13 +10,13 @@ use Rattle.party_terms.specs.Terms.{AgreedState}
 abbrev pub inside_agreed : Agreed → AgreedState
 inside_agreed s = record { job = s.job; context = s.context; digest = s.digest; next = s.next }
 
-abbrev pub begins_behind : List (List ℕ) → Bool
-begins_behind [] = true
-begins_behind (l ∷ ls) = not (is_context_line l)
+abbrev pub begins_without_context : List (List ℕ) → Bool
+begins_without_context [] = true
+begins_without_context (l ∷ ls) = not (is_context_line l)
 
 -- The first of these lines, if there is one, is none of context.
 abbrev pub IsBehindContext : List (List ℕ) → Type 0
-IsBehindContext ls = begins_behind ls ≡ true
+IsBehindContext ls = begins_without_context ls ≡ true
 
 -- A job of an accepted deal, whose lists are whole.
 pub record IsAgreedJob (job : Job) : Type 0 where

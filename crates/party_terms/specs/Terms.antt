@@ -52,7 +52,7 @@ named_terms name s = do
   v ← party_named 1 s.job.names name
   Ok (terms_text s.job.names s.job.deal s.context s.digest v)
 
--- the same by all lines of a text
+-- the terms of the party of that name, by all lines of a text
 unfoldable pub terms_from_lines : List ℕ → List (List ℕ) → Result (List ℕ) Refusal
 terms_from_lines name ls = do
   agreed ← parse_agreed 1 ls

@@ -80,7 +80,7 @@ fn context_arc(arcs: usize, fields: &mut Parts<'_>) -> Result<ArcId, WordFault>
     Ok(arc)
 }
 
-/// The arc of which a line tells something.
+/// The arc that a line tells something about.
 #[tactic(auto, unfolding(crate::specs::Context::parse_context_line))]
 fn parse_context_line(arcs: usize, line: &[u8]) -> Result<ArcId, WordFault>
     requires { arcs ≤ 256 }
@@ -93,7 +93,7 @@ fn parse_context_line(arcs: usize, line: &[u8]) -> Result<ArcId, WordFault>
     }
 }
 
-/// The arc of which the line of that number tells something.
+/// The arc that the line of that number tells something about.
 fn said(alloc: Global, arcs: usize, number: u32, line: &[u8]) -> Result<ArcId, HeaderFault>
     requires { arcs ≤ 256 }
     ensures { Gives (λ a. a) result (or_bad_line number (parse_context_line arcs line.now)) }

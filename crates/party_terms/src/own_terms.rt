@@ -31,7 +31,7 @@ fn named_terms(alloc: Global, name: &[u8], agreed: &Agreed) -> Result<ByteText, 
     )?)
 }
 
-/// The same by all lines of a text.
+/// The terms of the party of that name, by all lines of a text.
 #[tactic(auto, unfolding(crate::specs::Terms::terms_from_lines))]
 fn terms_from_lines(
     alloc: Global,

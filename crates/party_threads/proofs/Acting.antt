@@ -12,7 +12,7 @@ use Rattle.swap_run.proofs.Slots.{left, left_most}
 use Rattle.swap_world.specs.Acting.{IsMakable, IsSameOwner}
 use Rattle.party_threads.specs.Able.{watcher, machine_rest, IsAble}
 use Rattle.party_threads.specs.Later.{HaveAdvanced}
-use Rattle.party_threads.specs.Tracks.{IsWatching, HaveSeenAll, IsSameElsewhere, CanCall, HasLearntCall}
+use Rattle.party_threads.specs.Tracks.{IsWatching, HaveSeenAll, IsSameElsewhere, CanWatcherCall, HasLearntCall}
 use Rattle.party_threads.specs.Took.{HasActed}
 use Rattle.party_threads.proofs.Machines.{makable, made_of, able_made, owner_more, left_made, none_left}
 use Rattle.party_threads.proofs.Passes.{none_went, all_more, seen_of, elsewhere_more}
@@ -73,10 +73,10 @@ module _ (m answered : MachineState) (o : Option (ℕ × Call)) (x : ℕ × Call
   same_watcher : watcher answered ≡ watcher m
   same_watcher = λ i. record { deal = same.deal i; me = same.me i; known = same.known i }
 
-  pub can_call : (known : ℕ) → CanCall (watcher answered) x.0 x.1 known
+  pub can_call : (known : ℕ) → CanWatcherCall (watcher answered) x.0 x.1 known
   can_call known =
       let can : IsMakable m.deal m.me (due_action x) = makable m (due_action x) able due in
-      subst (λ w. CanCall w x.0 x.1 known) (sym same_watcher) (record {
+      subst (λ w. CanWatcherCall w x.0 x.1 known) (sym same_watcher) (record {
         arc = can.arc;
         near = can.of_the_two;
         fits = can.fits;
@@ -109,7 +109,7 @@ module _ (m answered : MachineState) (o : Option (ℕ × Call)) (x : ℕ × Call
         subst (λ (y : MachineState). left m.deal m.me y.known + 1 ≤ left m.deal m.me m.known) (sym n_is)
         (left_made m answered.signed (due_action x) call.others able due call.foreign call.legal)
 
--- The turn: what its looks and its acts come to.
+-- The whole turn, after its looks and its acts.
 pub has_acted : {A E : Type 0} (ledgers : List SharedState) (m n : MachineState) (ps qs rs : List (Option PassState)) (r : Result A E) → HaveSeenAll qs
     → IsSameElsewhere ps m.known n.known → OnOk r (IsAble n) → OnOk r (IsWatching ledgers (watcher n) rs) → OnOk r (HaveSeenAll qs → HaveSeenAll rs)
     → OnOk r (next_due n ≡ None) → OnOk r (HasActed m ps n rs)

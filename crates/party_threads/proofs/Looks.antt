@@ -54,7 +54,7 @@ legal_before d a h others fresh more legal is =
     all_moments_front (IsLegalMoment d a) (h ++ others) more
     (subst (IsLegal d a) (ap (λ x. h ++ x) is ∙ sym (append_assoc h others more)) legal)
 
--- the same in words of the party
+-- a call that was made, in words of the party
 made_is : (w : Watcher) (lock : TableId) (a : ℕ) (p : PassState) (c : Call) (h others : List Entry) → IsWatcherPass w lock a p
     → h ≡ after_call p.deal p.arc p.party c (p.seen ++ others) → h ≡ after_call w.deal a w.me c (history w.known a ++ others)
 made_is w lock a p c h others k e =

@@ -91,7 +91,7 @@ seen_of ledgers w ps a p t lt e =
     let s = shared_at ledgers a (subst (λ z. a < z) (t.places ∙ sym t.shared) lt) in
     (t.each a s.0 p lt s.1 e).seen
 
--- The history of arc a, of which the pass there has seen all, has come to be known.
+-- The pass on arc a has seen the whole history there, and the party knows it afterwards.
 module _ (ledgers : List SharedState) (w : Watcher) (ps : List (Option PassState)) (a : ℕ) (p q : PassState) (h : List Entry) (tracks : Tracks ledgers w ps)
     (below : a < length ps) (known : a < length w.known) (here : arc_pass ps a ≡ Some p) (later : IsLater p q) (seen : q.seen ≡ h) where
   new_pass : (s : SharedState) → s ≡ slice_index_or ledgers a s → IsWatcherPass (watcher_knowing w a h) s.lock a q

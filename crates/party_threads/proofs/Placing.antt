@@ -141,7 +141,7 @@ module _ (ts us : List Turn) (v : ℕ) (t u : Turn) (below : v < length ts) (the
     held = λ w b. kept (λ o. arc_pass (held_passes o) b) (ap (λ ps. arc_pass ps b) passes) w;
   }
 
--- the same where the turn is the one at the place
+-- a pass is put where the turn is the one at the place
 pub put_at : (ts : List Turn) (v a : ℕ) (p q : Option PassState) (x u : Turn) → v < length ts → a < length (held_passes (slice_get ts v))
     → u.actor ≡ (get_or ts v x).actor → u.clocks.items ≡ (get_or ts v x).clocks.items → u.passes.items ≡ set (get_or ts v x).passes.items a q → q ≡ p
     → IsPut ts v a p (set ts v u)

@@ -27,7 +27,7 @@ use Rattle.swap_rules.proofs.Conducting.{Next, next_call, next_legal, next_begin
 use Rattle.swap_run.specs.Run.{Plan}
 use Rattle.swap_world.specs.Gone.{MayGive}
 use Rattle.party_threads.specs.Later.{arc_pass, Advanced, HaveAdvanced}
-use Rattle.party_threads.specs.Tracks.{Watcher, Tracks, IsWatching, HaveSeenAll, HaveFresh, HaveLooked, CanCall, HasLearntCall}
+use Rattle.party_threads.specs.Tracks.{Watcher, Tracks, IsWatching, HaveSeenAll, HaveFresh, HaveLooked, CanWatcherCall, HasLearntCall}
 use Rattle.party_threads.specs.Played.{party_planner, plan_rest, sender_calls, arc_answer, HaveGrown, IsPlanAnswer, HasDone, HasPlayed}
 use Rattle.party_threads.specs.Took.{HasPlanned}
 use Rattle.party_threads.proofs.Passes.{seen_of}
@@ -150,7 +150,7 @@ has_done_nothing d v o k view is =
 
 -- the call of an answer can be made, with all its signatures to be verified
 pub can_call : (d : Deal) (v : ℕ) (n : Plan) (o : Option (ℕ × Call)) (x : ℕ × Call) → MayAnswer d v o → o ≡ Some x
-    → CanCall (party_planner d v n) x.0 x.1 0
+    → CanWatcherCall (party_planner d v n) x.0 x.1 0
 can_call d v n o x may is = let can = may x is in record { arc = can.arc; near = can.near; fits = can.fits; valid = refl }
 
 -- The turn.

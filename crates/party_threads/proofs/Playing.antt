@@ -1,4 +1,4 @@
--- What the turn of a party comes to, where its call went well.
+-- What the turn of a party leaves, where its call went well.
 use Rattle.std.proofs.Common.{◌≡◌, ℕ, List, Option, sym, subst}
 use Rattle.ledger_shared.specs.Value.{PassState, ClockState}
 use Rattle.party_machine.specs.Machine.{MachineState}

@@ -77,7 +77,7 @@ party_planner d seed role v (Planned n) b e p k = (n, refl)
 party_planner d seed role v Manual b e p k = absurd (false≢true (sym k.1 ∙ p))
 party_planner d seed role v Clock b e p k = absurd k
 
--- and the others don't act
+-- a party that neither conforms nor plans doesn't act
 manual_of : (d : Deal) (seed : Option (List ℕ)) (role : Role) (v : ℕ) (x : Actor) (b : Bool) → b ≡ false → is_planned role ≡ false → IsPartyTurnActor d b seed role v x
     → x ≡ Manual
 manual_of d seed role v (Conforming m) b e p k = absurd (false≢true (sym e ∙ k.0))
@@ -405,7 +405,7 @@ module _ (gives : MayGive) (job : Job) (ticks : ℕ) (ls ls' : List (Option Ledg
       moves = w.acted.shown.moves;
     }
 
-    -- of its own calls the party knew all that stood
+    -- the party knew all of its own calls that stood
     plan_own : (a : ℕ) → sender_calls v (history n.known a) ≡ sender_calls v (history old.book a)
     plan_own a = sym (calls_known v (history n.known a) (history old.book a) (w.knew a))
 

@@ -80,7 +80,7 @@ far_from d a v h legal far e i =
     let m = moment_from_in h e i in
     not_sender d a v m.0 e.sender e.what e.height e.reply (at_moment (IsLegalMoment d a) h m.0 e legal m.1) far
 
--- what is known of such an arc stays enough
+-- what a party knows of an arc that it doesn't touch stays enough
 pub far_knows : (d : Deal) (a v : ℕ) (known h l : List Entry) → IsLegal d a l → touches d v a ≡ false → Begins h l → Knows v known h → Knows v known l
 far_knows d a v known h l legal far grows k = record {
   rest = k.rest ++ grows.0;

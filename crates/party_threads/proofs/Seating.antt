@@ -48,7 +48,7 @@ use Rattle.party_threads.proofs.Sharing.{home_at, lock_at, held_near, held_far, 
 
 -- What a machine is, by its party.
 
--- the same machine, with its deal and its party as they are called
+-- the machine with its deal and its party as they are called
 abbrev named : Deal → ℕ → MachineState → MachineState
 named d v m = record { deal = d; me = v; seed = m.seed; known = m.known; signed = m.signed }
 
@@ -188,7 +188,7 @@ module _ (job : Job) (ls : List (Option LedgerState)) (first ts : List Turn) (sh
       )
       go l at k (inr far) = absurd (none-some _ (sym (held_far e ts locks ls s.home dealt all_locks v a lv lt far) ∙ held))
 
-  -- and next to v there is one
+  -- next to v there is a pass
   near_is : (v a : ℕ) → v < e.graph.n → a < length e.graph.arcs → touches e v a ≡ true → (p : PassState) × (held_pass ts v a ≡ Some p)
   near_is v a lv lt near =
       let l = home_at e ls a s.home lt in
@@ -197,7 +197,7 @@ module _ (job : Job) (ls : List (Option LedgerState)) (first ts : List Turn) (sh
         held_near e ts locks ls s.home dealt all_locks v a k.0 l.0 lv lt k.1 l.1 l.2 near,
       )
 
-  -- and elsewhere there is none
+  -- elsewhere there is no pass
   far_is : (v a : ℕ) → v < e.graph.n → a < length e.graph.arcs → touches e v a ≡ false → held_pass ts v a ≡ None
   far_is v a lv lt far = held_far e ts locks ls s.home dealt all_locks v a lv lt far
 

@@ -3,11 +3,11 @@ use Rattle.std.proofs.Common.{◌≡◌, ℕ, ◌<◌, length, set, slice_index_
 use Rattle.ledger_core.specs.declared.entry.Call.{Call}
 use Rattle.ledger_shared.specs.Value.{PassState, SharedState}
 use Rattle.party_threads.specs.Later.{arc_pass, Advanced, HaveAdvanced}
-use Rattle.party_threads.specs.Tracks.{Watcher, IsWatching, CanCall, HasMade, MadeIf, HasSubmitted}
+use Rattle.party_threads.specs.Tracks.{Watcher, IsWatching, CanWatcherCall, HasMade, MadeIf, HasSubmitted}
 use Rattle.party_threads.proofs.Passes.{none_went, any_default, one_went, watching_on, seen_again}
 
 module _ (ledgers : List SharedState) (w : Watcher) (ps : List (Option PassState)) (a : ℕ) (c : Call) (known : ℕ) (i : IsWatching ledgers w ps)
-    (can : CanCall w a c known) where
+    (can : CanWatcherCall w a c known) where
   place_below : a < length ps
   place_below = subst (λ z. a < z) (sym i.tracks.places) can.arc
 

@@ -37,7 +37,7 @@ module _ (gives : MayGive) (c : Cast) (ticks rounds : ℕ) (states : ℕ → Sta
   next : (r : ℕ) → r + 1 ≡ suc r
   next r = omega arith
 
-  -- The views and the answers, of which those past the last round don't matter.
+  -- The views and the answers. Those past the last round don't matter.
 
   abbrev turn_in : (r : ℕ) → (r < rounds) ⊎ (rounds ≤ r) → (view : Histories) × Option (ℕ × Call)
   turn_in r (inl l) = ((played r l).view, (played r l).answer)

@@ -27,7 +27,7 @@ party_planner d v n = record { deal = d; me = v; known = n.known }
 abbrev pub plan_rest : Plan → Plan
 plan_rest n = record n { known = [] }
 
--- What a party has come to know.
+-- What a party has learned.
 
 -- each history begins with what was known of it
 abbrev pub HaveGrown : Histories → Histories → Type 0

@@ -59,8 +59,8 @@ pub record IsRaced (gives : MayGive) (c : Cast) (ticks rounds : ℕ) (t : State)
 abbrev pub round_books : (ℕ → State) → ℕ → List Histories
 round_books states rounds = map (λ r. (states r).book) (range_with_len 0 (rounds + 1))
 
--- The book came of rounds from the start, the fewest that pass the horizon. The books at their ends
--- are, for each conforming party, such a list as the law speaks of by which races are in time.
+-- The book came of rounds from the start, the fewest that pass the horizon. For each conforming
+-- party, the books at the rounds' ends are a list to which the law applies that races are in time.
 pub record IsOfRounds (gives : MayGive) (c : Cast) (ticks : ℕ) (b : Histories) : Type 0 where
   pub end : State
   pub raced : IsRaced gives c ticks (needed_rounds c.deal ticks) end
@@ -93,9 +93,9 @@ pub record IsRaceBook (gives : MayGive) (c : Cast) (ticks : ℕ) (b : Histories)
   -- past that
   pub in_time : (v : ℕ) (rule : Rule) (a ref : ℕ) → v < c.deal.graph.n → conforms c v ≡ true → IsElement rule (deal_rules c.deal) → IsElement a (arcs c.deal.graph)
       → reference_height c.deal b v rule a ≡ Some ref → IsDoneInTime c.deal b v rule a (ref + 2 * ticks)
-  -- so that nobody conforming is late where two ticks fit in delta
+  -- nobody conforming is late where two rounds' ticks fit in delta
   pub on_time : 2 * ticks ≤ c.deal.delta → (v : ℕ) → v < c.deal.graph.n → conforms c v ≡ true → IsOnTime c.deal b v
-  -- and where all conform besides, nothing is found and everything moves
+  -- where two rounds' ticks fit in delta and all conform, nothing is found and everything moves
   pub dealt : 2 * ticks ≤ c.deal.delta → ((v : ℕ) → v < c.deal.graph.n → conforms c v ≡ true) → IsDealt c.deal (conforms c) b
 
 -- rounds that pass the horizon keep all that a race promises of a book of the program's own types

@@ -42,7 +42,7 @@ IsActorSeated holds job ledgers ticks v ps cs Clock = AreLedgerClocks ticks ledg
 abbrev pub IsSeated : (List ℕ → Bool) → Job → List SharedState → ℕ → ℕ → Turn → Type 0
 IsSeated holds job ledgers ticks v t = IsActorSeated holds job ledgers ticks v t.passes.items t.clocks.items t.actor
 
--- the same actor, later
+-- the actor is the same one at a later moment
 abbrev pub IsSameActor : Actor → Actor → Type 0
 IsSameActor (Conforming m) (Conforming n) = IsSameOwner m n
 IsSameActor (Conforming m) (Planned n) = ⊥

@@ -19,15 +19,15 @@ pub record Watcher : Type 0 where
   pub me : ℕ
   pub known : Histories
 
--- the same party, once it knows the history h of arc a
+-- the party after it came to know the history h of arc a
 abbrev pub watcher_knowing : Watcher → ℕ → List Entry → Watcher
 watcher_knowing w a h = record { deal = w.deal; me = w.me; known = set w.known a h }
 
--- the same party, once it has learnt entries of arc a
+-- the party after it learned entries of arc a
 abbrev pub knowing_more : Watcher → ℕ → List Entry → Watcher
 knowing_more w a entries = watcher_knowing w a (history w.known a ++ entries)
 
--- The arc is one of the deal's, of which the party knows something.
+-- The arc is one of the deal's, and the party knows something of it.
 pub record KnowsArc (w : Watcher) (a : ℕ) : Type 0 where
   pub deal : a < length w.deal.graph.arcs
   pub known : a < length w.known
@@ -98,7 +98,7 @@ abbrev pub IsWatcherPlace : List SharedState → Watcher → ℕ → Option Pass
 IsWatcherPlace ledgers w a None = Unit {0}
 IsWatcherPlace ledgers w a (Some p) = (s : SharedState) → s ≡ slice_index_or ledgers a s → IsWatcherPass w s.lock a p
 
--- the same as HasLooked through the pass at a place, where nothing is looked at without one
+-- a look through the pass at a place, where nothing is looked at without a pass
 abbrev pub LookedIf : Watcher → ℕ → Option PassState → Watcher → Option PassState → Type 0
 LookedIf w a None x q = (x ≡ w) × (q ≡ None)
 LookedIf w a (Some p) x q = (r : PassState) × (q ≡ Some r) × HasLooked w a p x r
@@ -120,7 +120,7 @@ pub record HaveLooked (ledgers : List SharedState) (w : Watcher) (ps : List (Opt
 
 -- The call stands on an arc that touches the party, and fits, and its last `known` signatures are
 -- valid.
-pub record CanCall (w : Watcher) (a : ℕ) (call : Call) (known : ℕ) : Type 0 where
+pub record CanWatcherCall (w : Watcher) (a : ℕ) (call : Call) (known : ℕ) : Type 0 where
   pub arc : a < length w.deal.graph.arcs
   pub near : touches w.deal w.me a ≡ true
   pub fits : IsTrue (fit w.deal a call)
@@ -133,19 +133,19 @@ pub record HasLearntCall (w : Watcher) (a : ℕ) (call : Call) (x : Watcher) : T
   pub legal : IsLegal w.deal a (history w.known a ++ others)
   pub knows : x ≡ watcher_knowing w a (after_call w.deal a w.me call (history w.known a ++ others))
 
--- The same by a pass, which has then seen it.
+-- The call was made through a pass, which has then seen it.
 pub record HasMade (w : Watcher) (a : ℕ) (call : Call) (p : PassState) (x : Watcher) (q : PassState) : Type 0 where
   pub learnt : HasLearntCall w a call x
   pub seen : q.seen ≡ after_call w.deal a w.me call (history w.known a ++ learnt.others)
   pub pass : IsLater p q
   pub whole : IsPrefix q.shared q.seen
 
--- the same through the pass at a place that has one
+-- the call was made through the pass at a place that has one
 abbrev pub MadeIf : Watcher → ℕ → Call → Option PassState → Watcher → Option PassState → Type 0
 MadeIf w a call None x q = ⊥
 MadeIf w a call (Some p) x q = (r : PassState) × (q ≡ Some r) × HasMade w a call p x r
 
--- The same by one of all passes of the party, which watches on.
+-- The call was made through one of all passes of the party, which goes on watching.
 pub record HasSubmitted (ledgers : List SharedState) (w : Watcher) (a : ℕ) (call : Call) (ps : List (Option PassState)) (x : Watcher)
     (qs : List (Option PassState)) : Type 0 where
   pub learnt : HasLearntCall w a call x

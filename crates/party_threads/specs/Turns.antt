@@ -91,7 +91,7 @@ AreFree d ts = (a : ℕ) → a < length d.graph.arcs → IsArcFree d ts a
 abbrev pub dealt_party_pass : Actor → ℕ → TableId → LedgerState → Option PassState
 dealt_party_pass x v lock l = if touches l.deal v l.arc then Some (party_pass lock l v (pass_start x l.arc l.history)) else None
 
--- the same where the ledger is shared
+-- the pass that is dealt to the actor v at a ledger that is shared, if the ledger is next to v
 abbrev pub dealt_shared_pass : Actor → ℕ → Option TableId → Option LedgerState → Option PassState
 dealt_shared_pass x v (Some lock) (Some l) = dealt_party_pass x v lock l
 dealt_shared_pass x v _ _ = None

@@ -32,7 +32,7 @@ impl Learner for Planner {
     }
 }
 
-/// The call that answers what the party knows, if any. The party has acted once more.
+/// The call that answers what the party knows, if any. The turn is counted.
 fn answer<A: Strategies>(
     strategies: &A,
     job: &Job,

@@ -6,7 +6,7 @@ ghost use Rattle.swap_digraph.specs.Deal.{IsWellSized};
 ghost use Rattle.party_threads.specs.declared.side.Side.{Side};
 ghost use Rattle.party_threads.specs.Later.{Advanced, HaveAdvanced};
 ghost use Rattle.party_threads.specs.Tracks.{Watcher, KnowsArc, CanLearn, knowing_more, IsWatching, IsSameElsewhere};
-ghost use Rattle.party_threads.specs.Tracks.{IsWatcherPlace, LookedIf, HaveLooked, CanCall, MadeIf, HasSubmitted};
+ghost use Rattle.party_threads.specs.Tracks.{IsWatcherPlace, LookedIf, HaveLooked, CanWatcherCall, MadeIf, HasSubmitted};
 
 use crate::side::Side;
 use ledger_core::{Call, EntryList};
@@ -91,7 +91,7 @@ fn call<R: Wait, L: Learner>(
 ) -> Result<(), NoMemory>
     requires ledger { due.0 < length side.now.ledgers.now }
     requires arc { KnowsArc (L.watcher side.now learner.old) due.0 }
-    requires can { CanCall (L.watcher side.now learner.old) due.0 due.1 verified }
+    requires can { CanWatcherCall (L.watcher side.now learner.old) due.0 due.1 verified }
     requires place { IsWatcherPlace side.now.ledgers.now (L.watcher side.now learner.old) due.0 place.old }
     requires there { place.old ≢ None }
     ensures later { Advanced place.old place.new }
@@ -122,7 +122,7 @@ pub(crate) fn submit<R: Wait, L: Learner>(
     verified: usize,
 ) -> Result<(), NoMemory>
     requires watching { IsWatching side.now.ledgers.now (L.watcher side.now learner.old) passes.old }
-    requires can { CanCall (L.watcher side.now learner.old) due.0 due.1 verified }
+    requires can { CanWatcherCall (L.watcher side.now learner.old) due.0 due.1 verified }
     ensures gone_on { HaveAdvanced passes.old passes.new }
     ensures submitted { OnOk result (HasSubmitted side.now.ledgers.now (L.watcher side.now learner.old) due.0 due.1 passes.old (L.watcher side.now learner.new)
         passes.new) }

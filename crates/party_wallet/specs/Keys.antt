@@ -41,7 +41,7 @@ empty_wallet m seed v locks = record { mode = m; seed = seed; party = v; signed 
 abbrev pub new_wallet : List ℕ → ℕ → Deal → WalletState
 new_wallet seed v d = record { mode = d.mode; seed = seed; party = v; signed = replicate (length d.leaders) None }
 
--- with the hashkeys that were signed before
+-- the wallet with the hashkeys that were signed before
 abbrev pub with_recorded : WalletState → List (Option Hashkey) → WalletState
 with_recorded w recorded = record { mode = w.mode; seed = w.seed; party = w.party; signed = recorded }
 

@@ -1,5 +1,5 @@
-//! Hashkeys with keys that are made anew from a seed. Whoever holds a seed may make as many as it
-//! likes; a conforming party never does.
+//! Hashkeys with keys that are made from a seed at every signature. Whoever holds a seed may make
+//! as many of them as it likes; a conforming party makes none.
 
 ghost use Rattle.std.specs.Prelude.{◌≡◌, ◌<◌, length, IfOk};
 ghost use Rattle.swap_digraph.specs.Deal.{path_limit};

@@ -118,7 +118,12 @@ impl Wallet {
     }
 
     /// The keys that a party's seed gives it for a deal, with nothing signed.
-    pub fn of(alloc: Global, seed: &Digest, me: PartyId, deal: &Deal) -> Result<Wallet, NoMemory>
+    pub fn for_deal(
+        alloc: Global,
+        seed: &Digest,
+        me: PartyId,
+        deal: &Deal,
+    ) -> Result<Wallet, NoMemory>
         requires { IsWellSized deal.now }
         ensures { IfOk result (λ w. w ≡ new_wallet seed.now me deal.now) }
     {
@@ -240,7 +245,7 @@ impl Wallet {
         requires { IsWellSized deal.now }
         ensures { IfOk result (λ w. w ≡ new_wallet self.now.seed party deal.now) }
     {
-        Wallet::of(alloc, &self.seed, party, deal)
+        Wallet::for_deal(alloc, &self.seed, party, deal)
     }
 
     /// The public key for a lock; timelocks ask for none.

@@ -28,8 +28,8 @@ pub(crate) fn unspent(
     }
 }
 
-/// The same key without its public key, which walks its chains no further than what it signs opens
-/// them.
+/// The key that the seed gives for a lock, without its public key. It walks its chains only as far
+/// as what it signs opens them.
 pub(crate) fn unspent_anew(
     mode: Mode,
     seed: &Digest,

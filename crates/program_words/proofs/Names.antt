@@ -7,7 +7,7 @@ use Rattle.std.specs.Char.{is_ascii_digit}
 use Rattle.std.proofs.lemmas.Slice.Eq.{bytes_eq-Decides}
 use Rattle.clap.specs.Lexer.{long_of, short_of}
 use Rattle.program_words.specs.Tables.{choice_label, choice_word}
-use Rattle.program_words.specs.Words.{behind, front, is_equals, is_number, names}
+use Rattle.program_words.specs.Words.{attached_text, front, is_equals, is_number, names}
 use Rattle.program_words.specs.declared.choice.Choice.{Choice}
 use Rattle.program_words.specs.declared.choice.Choice.TheVariants.{Ticks, Transcript, Seed, Parties, Events, Summary}
 
@@ -19,7 +19,7 @@ both false b h = cc
 front_cons : (y : ℕ) (rest : List ℕ) → is_equals y ≡ false → front (y ∷ rest) ≡ y ∷ front rest
 front_cons y rest h = rw h (ap (λ n. take n (y ∷ rest)) (one-add (prefix_len (λ x. not (is_equals x)) rest)))
 
-behind_cons : (y : ℕ) (rest : List ℕ) → is_equals y ≡ false → behind (y ∷ rest) ≡ behind rest
+behind_cons : (y : ℕ) (rest : List ℕ) → is_equals y ≡ false → attached_text (y ∷ rest) ≡ attached_text rest
 behind_cons y rest h =
     let n : ℕ = prefix_len (λ x. not (is_equals x)) rest in
     let e : 1 + n + 1 ≡ suc (n + 1) = omega arith in
@@ -54,7 +54,7 @@ dashes = 45 ∷ 45 ∷ []
 -- a word that names an option is a long option to `clap`
 pub record IsLong (word : List ℕ) (c : Choice) : Type 0 where
   pub front : front word ≡ 45 ∷ 45 ∷ choice_label c
-  pub long : long_of word ≡ Some (choice_label c, behind word)
+  pub long : long_of word ≡ Some (choice_label c, attached_text word)
   pub no_dashes : bytes_eq word (45 ∷ 45 ∷ []) ≡ false
 
 pub is_long : (word : List ℕ) (c : Choice) → names word c ≡ true → IsLong word c

@@ -60,7 +60,7 @@ taken name row a first words b ok = both_true _ _ b.is_simple
     (ap₂ (λ (x : App) (ws : List Text). built_takes x nothing_held ws) b.is_built (arguments a first words b.has_name)
     ∙ passes_built name row words ok b.defaults b.valid)
 
--- and what it finds of an option is its use, or else its default
+-- what a parse finds of an option is its use, or else its default
 pub found : (name : Text) (row : List Choice) (a : App) (first : Text) (words : List Text) → Builds name row a → are_options row None words ≡ true
     → (c : Choice) → find (has_id (choice_label c)) (matches_of a (first ∷ words)) ≡ or_else (expect c None words) (default_in row (choice_label c))
 found name row a first words b ok c =

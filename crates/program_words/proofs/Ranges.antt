@@ -2,7 +2,7 @@
 use Rattle.std.proofs.Common.{◌≡◌, ◌≤◌, ℕ, Bool, true, false, nat_le, List, [], ◌∷◌, Option, Some, None, option_and_then, refl, subst}
 use Rattle.std.proofs.Common.{arith, leb-true}
 use Rattle.program_words.specs.Tables.{choices, choice_range, parse_verb}
-use Rattle.program_words.specs.Words.{are_options, are_well_formed, asked, asked_task, is_given, is_short_numeral, option_number, task_text, to_text, asked_ticks}
+use Rattle.program_words.specs.Words.{are_options, are_well_formed, verb_task, asked_task, is_given, is_short_numeral, option_number, task_text, to_text, asked_ticks}
 use Rattle.program_words.specs.Words.{AreNumbersInRange}
 use Rattle.program_words.specs.declared.choice.Choice.{Choice}
 use Rattle.program_words.specs.declared.choice.Choice.TheVariants.{Ticks, Seed, Parties, Events}
@@ -26,7 +26,7 @@ ticks_within row words ok = go (is_given Ticks words) refl
     go true given = rw given (ranged_number Ticks (1, 1000) row words refl ok given)
     go false given = rw given (omega arith, omega arith)
 
-pub asked_within : (verb : Verb) (words : List (List ℕ)) → are_well_formed verb words ≡ true → AreNumbersInRange (asked verb words)
+pub asked_within : (verb : Verb) (words : List (List ℕ)) → are_well_formed verb words ≡ true → AreNumbersInRange (verb_task verb words)
 asked_within Check words whole = tt
 asked_within Run words whole = tt
 asked_within Race words whole = ticks_within (choices Race) words (both _ _ whole).0
@@ -49,8 +49,8 @@ by_verb words (Some verb) task is = go (are_well_formed verb words) refl
   where
     go : (b : Bool) → are_well_formed verb words ≡ b → AreNumbersInRange task
     go true whole =
-        let whole_is : ◌≡◌ {A = Option Task} (Some (asked verb words)) (Some task) = rw whole at is in
-        let same : asked verb words ≡ task = cc whole_is in
+        let whole_is : ◌≡◌ {A = Option Task} (Some (verb_task verb words)) (Some task) = rw whole at is in
+        let same : verb_task verb words ≡ task = cc whole_is in
         subst AreNumbersInRange same (asked_within verb words whole)
     go false wrong =
         let none : ◌≡◌ {A = Option Task} None (Some task) = rw wrong at is in

@@ -108,7 +108,7 @@ used_finds c text rows id h =
     ap (find (has_id id)) (used_joins (choice_range c) (choice_label c) text rows (no_row (choice_label c) rows h))
     ∙ find_push (has_id id) rows (given_row (choice_range c) (choice_label c) text)
 
--- and passes
+-- a first use of an option passes
 use_fits : (r : Option (ℕ × ℕ)) (id text : Text) (rows : List Row) → has_row id rows ≡ false
     → use_passes false (option_rule r id) (values_with r text) rows ≡ true
 use_fits None id text rows h = rw h refl

@@ -2,7 +2,7 @@
 use Rattle.std.proofs.Common.{◌≡◌, ℕ, ◌≤◌, length, get_or, map, drop, List, [], ◌∷◌, Option, Some, None, Bool, is_none, refl, sym, ap}
 use Rattle.std.proofs.Common.{arith, cond, true, false, suc, ◌+◌}
 use Rattle.std.specs.List.{after_first, list_any, position_or_len}
-use Rattle.program_words.specs.Words.{verdict_continues, are_options, behind, is_equals, choice_step}
+use Rattle.program_words.specs.Words.{verdict_continues, are_options, attached_text, is_equals, choice_step}
 use Rattle.program_words.specs.declared.choice.Choice.{Choice}
 
 pub no_words : {A : Type 0} (f : A → List ℕ) (row : List Choice) (waiting : Option Choice) (xs : List A) → length xs ≡ 0
@@ -20,7 +20,7 @@ more_words {A = A} f row (Some own) (y ∷ xs) x some is =
     ap (λ (z : A). verdict_continues (choice_step row (Some own) (f z) (map f xs)) (λ next. are_options row next (map f xs))) (sym is)
 
 -- a word without `=` has nothing behind it
-pub none_behind : (bs : List ℕ) → position_or_len is_equals bs ≡ length bs → None ≡ behind bs
+pub none_behind : (bs : List ℕ) → position_or_len is_equals bs ≡ length bs → None ≡ attached_text bs
 none_behind bs h = ap (λ (b : Bool). cond b (Some (after_first is_equals bs)) None) (sym (none bs h))
   where
     none : (bs : List ℕ) → position_or_len is_equals bs ≡ length bs → list_any is_equals bs ≡ false

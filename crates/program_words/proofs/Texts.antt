@@ -2,7 +2,7 @@
 use Rattle.std.proofs.Common.{◌≡◌, ◌∙◌, ℕ, Bool, true, false, List, [], ◌∷◌, Option, Some, None, refl, sym, subst, find, cond, unwrap_or}
 use Rattle.std.proofs.lemmas.Slice.Eq.{bytes_eq-Decides}
 use Rattle.program_words.specs.Tables.{choice_label, choice_range, choice_word}
-use Rattle.program_words.specs.Words.{verdict_continues, are_options, behind, first_or_empty, fits, front, is_given, is_number, names, option_step, choice_step, to_text}
+use Rattle.program_words.specs.Words.{verdict_continues, are_options, attached_text, first_or_empty, fits, front, is_given, is_number, names, option_step, choice_step, to_text}
 use Rattle.program_words.specs.declared.choice.Choice.{Choice}
 use Rattle.program_words.specs.declared.well_formed.Verdict.{Verdict}
 use Rattle.program_words.specs.declared.well_formed.Verdict.TheVariants.{Wrong, Done, Waits}
@@ -60,12 +60,12 @@ named : (row : List Choice) (c : Choice) (ends : ℕ × ℕ) (word : List ℕ) (
 named row c ends word words range n ok = rw n (by_option (find (names word) row) refl)
   where
     by_once : (b : Bool) → is_given c words ≡ b
-        → verdict_continues (cond b Wrong (option_step c (choice_range c) (behind word))) (λ next. are_options row next words) ≡ true
-        → is_number ends (unwrap_or (behind word) (first_or_empty words)) ≡ true
+        → verdict_continues (cond b Wrong (option_step c (choice_range c) (attached_text word))) (λ next. are_options row next words) ≡ true
+        → is_number ends (unwrap_or (attached_text word) (first_or_empty words)) ≡ true
     by_once true once h = cc
-    by_once false once h = by_parts row c ends words (behind word) range (rw range at h)
+    by_once false once h = by_parts row c ends words (attached_text word) range (rw range at h)
 
-    by_option : (o : Option Choice) → find (names word) row ≡ o → is_number ends (unwrap_or (behind word) (first_or_empty words)) ≡ true
+    by_option : (o : Option Choice) → find (names word) row ≡ o → is_number ends (unwrap_or (attached_text word) (first_or_empty words)) ≡ true
     by_option None e =
         let bad : false ≡ true = rw e at ok in
         cc
@@ -74,9 +74,9 @@ named row c ends word words range n ok = rw n (by_option (find (names word) row)
         let same : 45 ∷ 45 ∷ choice_label own ≡ 45 ∷ 45 ∷ choice_label c =
         (bytes_eq-Decides (choice_word own) (front word)).0 m ∙ sym ((bytes_eq-Decides (choice_word c) (front word)).0 n) in
         let one : own ≡ c = one_name own c cc in
-        let good : verdict_continues (cond (is_given own words) Wrong (option_step own (choice_range own) (behind word))) (λ next. are_options row next words) ≡ true =
+        let good : verdict_continues (cond (is_given own words) Wrong (option_step own (choice_range own) (attached_text word))) (λ next. are_options row next words) ≡ true =
         rw e at ok in
-        by_once (is_given c words) refl (subst (λ (x : Choice). verdict_continues (cond (is_given x words) Wrong (option_step x (choice_range x) (behind word)))
+        by_once (is_given c words) refl (subst (λ (x : Choice). verdict_continues (cond (is_given x words) Wrong (option_step x (choice_range x) (attached_text word)))
         (λ next. are_options row next words) ≡ true) one good)
 
 by_name : (row : List Choice) (c : Choice) (ends : ℕ × ℕ) (word : List ℕ) (words : List (List ℕ)) → choice_range c ≡ Some ends

@@ -6,7 +6,7 @@ use Rattle.std.proofs.lemmas.Slice.Eq.{bytes_eq-Decides}
 use Rattle.clap.specs.Walk.{Held, Row, Rule, Text, Waiting, Walk, idle, option, arg_by_id, most_values, reacted, settled, takes_values, used, walked}
 use Rattle.clap.specs.Takes.{react_passes, settle_passes, use_passes, walk_passes}
 use Rattle.program_words.specs.Tables.{choice_label, choice_range, choice_word}
-use Rattle.program_words.specs.Words.{verdict_continues, are_options, behind, first_or_empty, fits, front, is_given, is_number, names, option_step, to_text}
+use Rattle.program_words.specs.Words.{verdict_continues, are_options, attached_text, first_or_empty, fits, front, is_given, is_number, names, option_step, to_text}
 use Rattle.program_words.specs.declared.well_formed.Verdict.TheVariants.{Wrong}
 use Rattle.clap.specs.Lexer.{long_of}
 use Rattle.program_words.specs.declared.choice.Choice.{Choice}
@@ -202,7 +202,7 @@ other_name own c word long h = go (names word c) refl
 skips : (c : Choice) (word : Text) (words : List Text) → names word c ≡ false → expect_idle c words ≡ expect_idle c (word ∷ words)
 skips c word words h = rw h refl
 
-takes_own : (c : Choice) (word : Text) (words : List Text) (v : Option Text) → names word c ≡ true → behind word ≡ v
+takes_own : (c : Choice) (word : Text) (words : List Text) (v : Option Text) → names word c ≡ true → attached_text word ≡ v
     → expect_idle c (word ∷ words) ≡ own_row c (unwrap_or v (first_or_empty words))
 takes_own c word words v n b = rw (n, b) refl
 
@@ -247,7 +247,7 @@ used_at_once name row own text values word words h R long n once idle_now v is o
 
 -- an option whose number comes next
 used_next : (name : Text) (row : List Choice) (own : Choice) (word : Text) (words : List Text) (h : Held) (R : List Row)
-    → IsLong word own → names word own ≡ true → behind word ≡ None → is_given own words ≡ false → Idle (map rule row) (word ∷ words) h R
+    → IsLong word own → names word own ≡ true → attached_text word ≡ None → is_given own words ≡ false → Idle (map rule row) (word ∷ words) h R
     → arg_by_id (map rule row) (rule own).id ≡ Some (rule own)
     → are_options row (Some own) words ≡ true → Rest name row words
     → Leads name (map rule row) idle h word (option (rule own).id) (awaiting (map rule row) (rule own) h) (settle_passes (map rule row) false h)
@@ -279,7 +279,7 @@ idle_step : (name : Text) (row : List Choice) (word : Text) (words : List Text) 
 idle_step name row word words h R ok idle_now rest = by_option (find (names word) row) refl
   where
     by_parts : (own : Choice) → find (names word) row ≡ Some own → is_given own words ≡ false
-        → (r : Option (ℕ × ℕ)) → choice_range own ≡ r → (v : Option Text) → behind word ≡ v
+        → (r : Option (ℕ × ℕ)) → choice_range own ≡ r → (v : Option Text) → attached_text word ≡ v
         → verdict_continues (option_step own r v) (λ next. are_options row next words) ≡ true
         → Goes name (map rule row) idle h (word ∷ words) R (λ c. expect_idle c (word ∷ words))
     by_parts own e once None range None v good =
@@ -317,10 +317,10 @@ idle_step name row word words h R ok idle_now rest = by_option (find (names word
             (takes_is (choice_range own) (choice_label own) ∙ ap is_some range))
 
     by_once : (own : Choice) → find (names word) row ≡ Some own → (b : Bool) → is_given own words ≡ b
-        → verdict_continues (cond b Wrong (option_step own (choice_range own) (behind word))) (λ next. are_options row next words) ≡ true
+        → verdict_continues (cond b Wrong (option_step own (choice_range own) (attached_text word))) (λ next. are_options row next words) ≡ true
         → Goes name (map rule row) idle h (word ∷ words) R (λ c. expect_idle c (word ∷ words))
     by_once own e true once good = cc
-    by_once own e false once good = by_parts own e once (choice_range own) refl (behind word) refl good
+    by_once own e false once good = by_parts own e once (choice_range own) refl (attached_text word) refl good
 
     by_option : (o : Option Choice) → find (names word) row ≡ o → Goes name (map rule row) idle h (word ∷ words) R (λ c. expect_idle c (word ∷ words))
     by_option None e =

@@ -29,7 +29,7 @@ choices Gen = Seed ∷ Parties ∷ Events ∷ Summary ∷ []
 choices Clear = []
 choices Many = []
 
--- and those that must
+-- the options that must follow each
 abbrev pub needed_choices : Verb → List Choice
 needed_choices Check = []
 needed_choices Run = []

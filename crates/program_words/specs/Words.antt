@@ -25,8 +25,8 @@ is_equals byte = byte == 61
 abbrev pub front : List ℕ → List ℕ
 front word = before_first is_equals word
 
-abbrev pub behind : List ℕ → Option (List ℕ)
-behind word = if list_any is_equals word then Some (after_first is_equals word) else None
+abbrev pub attached_text : List ℕ → Option (List ℕ)
+attached_text word = if list_any is_equals word then Some (after_first is_equals word) else None
 
 -- the word is the option's, alone or with something behind `=`
 abbrev pub names : List ℕ → Choice → Bool
@@ -36,7 +36,7 @@ names word choice = bytes_eq (choice_word choice) (front word)
 abbrev pub is_short_numeral : List ℕ → Bool
 is_short_numeral text = nat_le 1 (length text) && nat_le (length text) 10 && list_all is_ascii_digit text
 
--- and its number lies in the range
+-- the text has 1 to 10 decimal digits, and its number lies in the range
 abbrev pub is_number : ℕ × ℕ → List ℕ → Bool
 is_number range text = is_short_numeral text && (nat_le range.0 (digits_value 10 text) && nat_le (digits_value 10 text) range.1)
 
@@ -57,7 +57,7 @@ fits (Some range) word = is_number range word
 abbrev pub named_step : Option Choice → List ℕ → List (List ℕ) → Verdict
 named_step None word later = Wrong
 named_step (Some choice) word later =
-    if list_any (λ other. names other choice) later then Wrong else option_step choice (choice_range choice) (behind word)
+    if list_any (λ other. names other choice) later then Wrong else option_step choice (choice_range choice) (attached_text word)
 
 -- a word, where an option waits for its number or none does; `later` are the words that follow
 abbrev pub choice_step : List Choice → Option Choice → List ℕ → List (List ℕ) → Verdict
@@ -91,7 +91,7 @@ first_or_empty (word ∷ words) = word
 -- the text that an option is given: what stands behind `=`, or the next word
 abbrev pub to_text : Choice → List (List ℕ) → List ℕ
 to_text choice [] = []
-to_text choice (word ∷ words) = if names word choice then unwrap_or (behind word) (first_or_empty words) else to_text choice words
+to_text choice (word ∷ words) = if names word choice then unwrap_or (attached_text word) (first_or_empty words) else to_text choice words
 
 abbrev pub option_number : Choice → List (List ℕ) → ℕ
 option_number choice words = digits_value 10 (to_text choice words)
@@ -99,23 +99,23 @@ option_number choice words = digits_value 10 (to_text choice words)
 abbrev pub asked_ticks : List (List ℕ) → ℕ
 asked_ticks words = if is_given Ticks words then option_number Ticks words else 1
 
-abbrev pub asked : Verb → List (List ℕ) → Task
-asked Check words = task.Input order.Check
-asked Run words = task.Input (order.Run (is_given Transcript words))
-asked Race words = task.Race (asked_ticks words) (is_given Transcript words)
-asked Audit words = task.Input order.Audit
-asked Make words = task.Input order.Make
-asked Gen words = task.Number (record {
+abbrev pub verb_task : Verb → List (List ℕ) → Task
+verb_task Check words = task.Input order.Check
+verb_task Run words = task.Input (order.Run (is_given Transcript words))
+verb_task Race words = task.Race (asked_ticks words) (is_given Transcript words)
+verb_task Audit words = task.Input order.Audit
+verb_task Make words = task.Input order.Make
+verb_task Gen words = task.Number (record {
   seed = option_number Seed words;
   parties = option_number Parties words;
   events = option_number Events words;
   summary = is_given Summary words;
 })
-asked Clear words = task.Input order.Clear
-asked Many words = task.Input order.Many
+verb_task Clear words = task.Input order.Clear
+verb_task Many words = task.Input order.Many
 
 abbrev pub asked_task : List (List ℕ) → Verb → Option Task
-asked_task words verb = if are_well_formed verb words then Some (asked verb words) else None
+asked_task words verb = if are_well_formed verb words then Some (verb_task verb words) else None
 
 -- the task that the words ask for: no other words are well formed
 abbrev pub task_text : List (List ℕ) → Option Task

@@ -7,7 +7,7 @@ ghost use Rattle.clap.specs.Values.{kind_of};
 ghost use Rattle.clap.specs.Walk.{rule_of};
 ghost use Rattle.program_words.specs.Parsed.{AreRead, Numbers, verb_app, bare_app, flag_rule, number_rule};
 ghost use Rattle.program_words.specs.Tables.{choices};
-ghost use Rattle.program_words.specs.Words.{are_well_formed, asked, task_text, AreNumbersInRange};
+ghost use Rattle.program_words.specs.Words.{are_well_formed, verb_task, task_text, AreNumbersInRange};
 ghost use Rattle.program_words.specs.declared.task.Task.{Task};
 
 use crate::task::{Order, Request, Task};
@@ -107,7 +107,7 @@ fn given_number(matches: &ArgMatches<'_>, name: &str) -> Option<u32>
     matches.get_one(name)
 }
 
-/// The same of an option whose numbers are small.
+/// The number of an option whose numbers are below 256, where it is given.
 fn given_small_number(matches: &ArgMatches<'_>, name: &str) -> Option<u8>
     ensures none { one_text (found_of matches.now) name.now ≡ None → result ≡ None }
     ensures number { Numbers (2 ^ 8) (one_text (found_of matches.now) name.now) result }
@@ -116,7 +116,7 @@ fn given_small_number(matches: &ArgMatches<'_>, name: &str) -> Option<u8>
 }
 
 fn run_task(matches: &ArgMatches<'_>) -> Task
-    ensures { (words : List (List ℕ)) → are_well_formed Verb.Run words ≡ true → AreRead (choices Verb.Run) words matches.now → result ≡ asked Verb.Run words }
+    ensures { (words : List (List ℕ)) → are_well_formed Verb.Run words ≡ true → AreRead (choices Verb.Run) words matches.now → result ≡ verb_task Verb.Run words }
 {
     Task::Input(Order::Run {
         transcript: matches.get_flag("transcript"),
@@ -125,7 +125,7 @@ fn run_task(matches: &ArgMatches<'_>) -> Task
 
 fn race_task(matches: &ArgMatches<'_>) -> Task
     ensures { (words : List (List ℕ)) → are_well_formed Verb.Race words ≡ true → AreRead (choices Verb.Race) words matches.now
-        → result ≡ asked Verb.Race words }
+        → result ≡ verb_task Verb.Race words }
 {
     Task::Race {
         ticks: given_number(matches, "ticks").unwrap_or(1),
@@ -134,7 +134,7 @@ fn race_task(matches: &ArgMatches<'_>) -> Task
 }
 
 fn gen_task(matches: &ArgMatches<'_>) -> Task
-    ensures { (words : List (List ℕ)) → are_well_formed Verb.Gen words ≡ true → AreRead (choices Verb.Gen) words matches.now → result ≡ asked Verb.Gen words }
+    ensures { (words : List (List ℕ)) → are_well_formed Verb.Gen words ≡ true → AreRead (choices Verb.Gen) words matches.now → result ≡ verb_task Verb.Gen words }
 {
     Task::Number(Request {
         seed: given_number(matches, "seed").unwrap_or(0),
@@ -146,7 +146,7 @@ fn gen_task(matches: &ArgMatches<'_>) -> Task
 
 /// The task, with the values of its options.
 fn parse_task(verb: Verb, matches: &ArgMatches<'_>) -> Task
-    ensures { (words : List (List ℕ)) → are_well_formed verb words ≡ true → AreRead (choices verb) words matches.now → result ≡ asked verb words }
+    ensures { (words : List (List ℕ)) → are_well_formed verb words ≡ true → AreRead (choices verb) words matches.now → result ≡ verb_task verb words }
 {
     match verb {
         Verb::Check => Task::Input(Order::Check),
@@ -164,7 +164,7 @@ fn parse_task(verb: Verb, matches: &ArgMatches<'_>) -> Task
 fn read_whole(alloc: Global, verb: Verb, words: &[String]) -> Result<Task, NoMemory>
     requires some { 0 < length words.now }
     requires whole { are_well_formed verb (map string_bytes (drop 1 words.now)) ≡ true }
-    ensures exact { IfOk result (λ task. task ≡ asked verb (map string_bytes (drop 1 words.now))) }
+    ensures exact { IfOk result (λ task. task ≡ verb_task verb (map string_bytes (drop 1 words.now))) }
     ensures within { IfOk result AreNumbersInRange }
 {
     match option_matches(alloc, verb, words) {

@@ -3,7 +3,7 @@
 ghost use Rattle.std.specs.Prelude.{◌≡◌, find, map, option_map, string_bytes};
 ghost use Rattle.std.specs.Char.{is_ascii_digit};
 ghost use Rattle.std.specs.List.{list_all};
-ghost use Rattle.program_words.specs.Words.{are_options, are_well_formed, behind, fits, front, is_given, is_number, is_short_numeral, names};
+ghost use Rattle.program_words.specs.Words.{are_options, are_well_formed, attached_text, fits, front, is_given, is_number, is_short_numeral, names};
 ghost use Rattle.program_words.specs.Words.{named_step, option_step, choice_step};
 
 use crate::choice::Choice;
@@ -31,8 +31,8 @@ fn front(word: &str) -> &str
 }
 
 /// What stands behind the first `=` of a word, where there is one.
-fn behind(word: &str) -> Option<&str>
-    ensures { option_map (λ text. text.now) result ≡ behind word.now }
+fn attached_text(word: &str) -> Option<&str>
+    ensures { option_map (λ text. text.now) result ≡ attached_text word.now }
 {
     match word.split_once('=') {
         Some((_, text)) => Some(text),
@@ -65,7 +65,7 @@ fn is_short_numeral(text: &str) -> bool
     1 <= text.len() && text.len() <= 10 && are_digits(text.as_bytes())
 }
 
-/// Whether such a text's number lies in the range.
+/// Whether the text is a short numeral whose number lies in the range.
 #[tactic(auto, using(crate::proofs::Numbers::parsed))]
 fn is_number(range: (u32, u32), text: &str) -> bool
     ensures { result ≡ is_number range text.now }
@@ -125,7 +125,7 @@ fn named_step(row: &[Choice], word: &str, later: &[String]) -> Verdict
             if is_given(choice, later) {
                 return Verdict::Wrong;
             }
-            option_step(choice, choice.range(), behind(word))
+            option_step(choice, choice.range(), attached_text(word))
         }
     }
 }

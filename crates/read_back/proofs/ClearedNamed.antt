@@ -15,7 +15,7 @@ use Rattle.offer_header.specs.Names.{named_ends, is_name, leader_step, name_adde
 use Rattle.offer_header.specs.declared.names.Ends.{Ends}
 use Rattle.offer_header.specs.declared.names.Numbered.{Numbered}
 use Rattle.swap_clear.specs.declared.answer.Group.{Group}
-use Rattle.swap_clear.specs.Groups.{place}
+use Rattle.swap_clear.specs.Groups.{index_in_set}
 use Rattle.swap_clear.specs.Led.{own_leaders}
 use Rattle.clear_line.specs.declared.limits.Wishes.{Wishes}
 use Rattle.clear_line.specs.ClearedText.{proposal}
@@ -26,7 +26,7 @@ use Rattle.read_back.proofs.Lists.{first_in, firsts, is_less, none_passes, puts_
 use Rattle.read_back.proofs.Shape.{is_party, from_in, to_in, number_back, place_apart, same_name, IsClear, not_true}
 
 abbrev pub ends_at : Wishes → Group → ℕ → Ends
-ends_at w group a = record { from = place group.parties (proposal w.arcs a).from; to = place group.parties (proposal w.arcs a).to }
+ends_at w group a = record { from = index_in_set group.parties (proposal w.arcs a).from; to = index_in_set group.parties (proposal w.arcs a).to }
 
 abbrev pub numbered_at : Wishes → Group → Numbered
 numbered_at w group = record { names = map (wished_name w) group.parties; arcs = map (ends_at w group) group.arcs; leaders = own_leaders group }
@@ -85,9 +85,9 @@ module _ (w : Wishes) (group : Group) (k : IsClear w group) (line : ℕ) (texts 
   arc_on a i =
       let from = from_in w group k line a i in
       let to = to_in w group k line a i in
-      step _ (place group.parties (proposal w.arcs a).from) _
+      step _ (index_in_set group.parties (proposal w.arcs a).from) _
       (number_back w group k line (proposal w.arcs a).from (is_party w group k line _ (is_listed-true _ group.parties from)) from)
-      ∙ step _ (place group.parties (proposal w.arcs a).to) _
+      ∙ step _ (index_in_set group.parties (proposal w.arcs a).to) _
       (number_back w group k line (proposal w.arcs a).to (is_party w group k line _ (is_listed-true _ group.parties to)) to)
 
   all_arcs : collected_results (named_ends line (map (wished_name w) group.parties)) (map (raw_arc w) group.arcs) ≡ Ok (map (ends_at w group) group.arcs)
@@ -105,24 +105,24 @@ module _ (w : Wishes) (group : Group) (k : IsClear w group) (line : ℕ) (texts 
   leader_before past x rest e y i = subst (λ (l : List ℕ). IsElement y l) (sym e) (in_append past (x ∷ rest) y (inl i))
 
   leader_on : (past : List ℕ) (x : ℕ) (rest : List ℕ) → group.leaders ≡ past ++ x ∷ rest
-      → leader_step line (map (wished_name w) group.parties) (map (place group.parties) past) (raw_leader w x)
-      ≡ Ok (map (place group.parties) past ++ place group.parties x ∷ [])
+      → leader_step line (map (wished_name w) group.parties) (map (index_in_set group.parties) past) (raw_leader w x)
+      ≡ Ok (map (index_in_set group.parties) past ++ index_in_set group.parties x ∷ [])
   unfolding leader_step
   leader_on past x rest e =
       let leads = leads_in x (leader_in past x rest e) in
-      let fresh : list_any (λ n. nat_eq n (place group.parties x)) (map (place group.parties) past) ≡ false =
-      none_passes (λ n. nat_eq n (place group.parties x)) (place group.parties) past (λ y i.
-      not_true (nat_eq (place group.parties y) (place group.parties x)) (λ t.
+      let fresh : list_any (λ n. nat_eq n (index_in_set group.parties x)) (map (index_in_set group.parties) past) ≡ false =
+      none_passes (λ n. nat_eq n (index_in_set group.parties x)) (index_in_set group.parties) past (λ y i.
+      not_true (nat_eq (index_in_set group.parties y) (index_in_set group.parties x)) (λ t.
       let same : y ≡ x = place_apart w group k line y x (leads_in y (leader_before past x rest e y i)) leads
-      (eqb-true (place group.parties y) (place group.parties x) t) in
+      (eqb-true (index_in_set group.parties y) (index_in_set group.parties x) t) in
       let less : y < x = is_less group.leaders past x rest k.led.ascending e y i in
       omega (arith, same, less))) in
-      step _ (place group.parties x) _
+      step _ (index_in_set group.parties x) _
       (number_back w group k line x (is_party w group k line x (is_listed-true x group.parties leads)) leads)
       ∙ rw fresh refl
 
   all_leaders : steps (leader_step line (map (wished_name w) group.parties)) [] (map (raw_leader w) group.leaders) ≡ Ok (own_leaders group)
-  all_leaders = puts_each (leader_step line (map (wished_name w) group.parties)) (raw_leader w) (place group.parties) [] group.leaders leader_on
+  all_leaders = puts_each (leader_step line (map (wished_name w) group.parties)) (raw_leader w) (index_in_set group.parties) [] group.leaders leader_on
 
   pub numbered_back : (has : List ℕ → Bool) → numbered_header has line (raw_header w group texts) ≡ Ok (numbered_at w group)
   unfolding numbered_header

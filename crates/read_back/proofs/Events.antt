@@ -15,7 +15,7 @@ use Rattle.refusals.specs.declared.reason.Reason.TheVariants.{NotAdjacent, OverL
 use Rattle.offer_fields.specs.Names.{party_of_name}
 use Rattle.offer_moves.specs.Moves.{parse_arc, deal_sizes}
 use Rattle.offer_moves.specs.Placed.{adjacent}
-use Rattle.offer_events.specs.Event.{asked, parse_event, event_of_act, event_of_look, event_of_tick, outside_race}
+use Rattle.offer_events.specs.Event.{asked_event, parse_event, event_of_act, event_of_look, event_of_tick, outside_race}
 use Rattle.offer_events.specs.Plain.{is_plain_byte}
 use Rattle.offer_events.specs.declared.raw.RawEvent.TheVariants as raws
 use Rattle.offer_events.proofs.PlainText.{act_alone, arc_then_look, asked_by, by_then_tick}
@@ -117,7 +117,7 @@ abbrev pub AreDrawn : Job → List Event → Type 0
 AreDrawn job [] = Unit {0}
 AreDrawn job (e ∷ es) = IsJobEvent job e × IsDrawn e × AreDrawn job es
 
--- so are those that a number gives
+-- the events that a number gives may come, and are drawn
 pub drawn_from : (job : Job) (seed : ℕ) (g : Graph) → ((at : ℕ) → IsJobEvent job (drawn_event seed g at).0) → (at count : ℕ)
     → AreDrawn job (drawn_events seed g at count)
 drawn_from job seed g can at zero = tt
@@ -163,7 +163,7 @@ module _ (job : Job) (k : HasPlainNames job) where
   act_back line p lt = step _ p _ (k.number line p lt)
 
   event_back : (line : ℕ) (e : Event) → IsJobEvent job e → IsDrawn e → parse_event job line (event_text job.names e) ≡ Ok e
-  unfolding asked
+  unfolding asked_event
   event_back line (Tick a n) can d =
       let h = plain_event (Tick a n) can d in
       asked_by job line (event_text job.names (Tick a n)) (raws.Tick a (Some n)) (by_then_tick line a n (event_text job.names (Tick a n))

@@ -30,7 +30,7 @@ text_is_its_lines (l ∷ ls) h =
 pub text_has_one_story : TextHasOneStory
 text_has_one_story ls ms h k e = sym (text_is_its_lines ls h) ∙ ap collect_lines e ∙ text_is_its_lines ms k
 
--- the same, where each line is told in turn
+-- lines that are ended one by one are collected as they were
 pub ended_lines : (ls : List (List ℕ)) → AllByRecursion IsOneLine ls → collect_lines (fed_lines ls) ≡ ls
 unfolding collect_lines
 ended_lines [] h = refl

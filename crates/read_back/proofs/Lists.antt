@@ -102,7 +102,7 @@ pairs_long [] ts e = refl
 pairs_long (p ∷ ps) [] e = absurd (omega (arith, e))
 pairs_long (p ∷ ps) (t ∷ ts) e = ap (λ (n : ℕ). suc n) (pairs_long ps ts (omega (arith, e)))
 
--- the same for each of as many
+-- two lists of one length give as many copies of c
 pub as_many : {A B C : Type 0} (c : C) (xs : List A) (ys : List B) → length xs ≡ length ys → map (λ x. c) xs ≡ map (λ y. c) ys
 as_many c [] [] e = refl
 as_many c [] (y ∷ ys) e = absurd (omega (arith, e))

@@ -21,7 +21,7 @@ use Rattle.swap_job.specs.declared.moves.Move.TheVariants.{Publish, Craft, Repla
 use Rattle.offer_moves.specs.declared.moves.Sizes.{Sizes}
 use Rattle.refusals.specs.declared.reason.Reason.{Reason}
 use Rattle.refusals.specs.declared.reason.Reason.TheVariants.{Unknown}
-use Rattle.offer_header.specs.Names.{actor_known, all_known, known, move_known, name_added, name_step, names_stated, numbered_header, strategy_known, with_name}
+use Rattle.offer_header.specs.Names.{actor_known, all_known, known_name, move_known, name_added, name_step, names_stated, numbered_header, strategy_known, with_name}
 use Rattle.read_back.proofs.HeaderLimited.{all_in}
 use Rattle.read_back.proofs.HeaderNamed.{all_arcs, all_leaders, ends_at, is_fresh, name_on, numbered_at}
 use Rattle.read_back.proofs.Steps.{step}
@@ -39,8 +39,8 @@ all_pass f g (x ∷ xs) h =
     step (f (g x)) tt (λ u. steps (λ u x. f x) u (map g xs)) (h x (inl refl)) ∙ all_pass f g xs (λ y i. h y (inr i))
 
 -- a name among names is known
-is_known : (line : ℕ) (names : List (List ℕ)) (p : ℕ) → p < length names → known line names (party_label names p) ≡ Ok tt
-unfolding known
+is_known : (line : ℕ) (names : List (List ℕ)) (p : ℕ) → p < length names → known_name line names (party_label names p) ≡ Ok tt
+unfolding known_name
 is_known line names p lt =
     let there : list_any (bytes_eq (party_label names p)) names ≡ true =
     list_any_at (bytes_eq (party_label names p)) names p [] lt (bytes_eq_self (party_label names p)) in
@@ -48,7 +48,7 @@ is_known line names p lt =
 
 are_known : (line : ℕ) (names : List (List ℕ)) (ps : List ℕ) → All (λ p. p < length names) ps → all_known line names (map (party_label names) ps) ≡ Ok tt
 unfolding all_known
-are_known line names ps all = all_pass (known line names) (party_label names) ps (λ p i. is_known line names p (all_in (λ q. q < length names) ps p all i))
+are_known line names ps all = all_pass (known_name line names) (party_label names) ps (λ p i. is_known line names p (all_in (λ q. q < length names) ps p all i))
 
 move_is_known : (line : ℕ) (names : List (List ℕ)) (s : Sizes) (mv : Move) → IsLimited s (length names) mv
     → move_known line names (raw_move names mv) ≡ Ok tt

@@ -14,7 +14,7 @@ use Rattle.offer_fields.specs.Names.{found_place, party_of_name}
 use Rattle.offer_header.specs.Names.{is_name}
 use Rattle.swap_clear.specs.declared.answer.Group.{Group}
 use Rattle.swap_clear.specs.declared.proposed.Proposed.{Proposed}
-use Rattle.swap_clear.specs.Groups.{place}
+use Rattle.swap_clear.specs.Groups.{index_in_set}
 use Rattle.swap_clear.specs.Proposals.{resolve_arc_ends}
 use Rattle.swap_clear.specs.Led.{own, own_leaders, IsLed}
 use Rattle.swap_clear.specs.Ready.{own_amounts, IsReady}
@@ -80,7 +80,7 @@ module _ (w : Wishes) (group : Group) (k : IsClear w group) (line : ℕ) where
 
   -- a name stands for the place of its party in the group
   pub number_back : (p : ℕ) → p < length w.names → is_listed p group.parties ≡ true
-      → party_of_name line (map (wished_name w) group.parties) (wished_name w p) ≡ Ok (place group.parties p)
+      → party_of_name line (map (wished_name w) group.parties) (wished_name w p) ≡ Ok (index_in_set group.parties p)
   unfolding party_of_name
   number_back p lt among =
       ap (found_place line (wished_name w p)) (position_from-zero (bytes_eq (wished_name w p)) (map (wished_name w) group.parties)
@@ -89,6 +89,6 @@ module _ (w : Wishes) (group : Group) (k : IsClear w group) (line : ℕ) where
       ∙ position_is (λ q. q == p) group.parties among)
 
   -- parties at one place are the same
-  pub place_apart : (u v : ℕ) → is_listed u group.parties ≡ true → is_listed v group.parties ≡ true → place group.parties u ≡ place group.parties v → u ≡ v
+  pub place_apart : (u v : ℕ) → is_listed u group.parties ≡ true → is_listed v group.parties ≡ true → index_in_set group.parties u ≡ index_in_set group.parties v → u ≡ v
   place_apart u v iu iv e =
       sym (stands group.parties u iu).is ∙ ap (λ (n : ℕ). get_or group.parties n 0) e ∙ (stands group.parties v iv).is

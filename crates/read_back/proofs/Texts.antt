@@ -39,7 +39,7 @@ pub record IsRead (k : ℕ) (d : Data) : Type 0 where
 pub some_step : {A B : Type 0} (o : Option A) (x : A) (f : A → Option B) → o ≡ Some x → option_and_then f o ≡ f x
 some_step {A = A} o x f e = ap (λ (q : Option A). option_and_then f q) e
 
--- the text of such a value is read as the value
+-- the text of a value with these properties is read as the value
 pub reads_back : (k : ℕ) (d : Data) → IsRead k d → k ≤ max_depth → read (compact_text d) ≡ Some d
 reads_back k d h le =
     let j = outline d in

@@ -104,7 +104,7 @@ MadeTextIsReadBack =
     → (purpose : Purpose) → reads_jobs purpose ≡ true → (number : ℕ) (again : List ℕ) → is_utf8 again ≡ true
     → read again ≡ Some (made_header (made plain)) → parse_header_job has purpose number again ≡ Ok (told_job purpose plain)
 
--- So its header line gives that job.
+-- The header line of a job that was made gives that job.
 abbrev pub MadeHeaderIsReadBack : Type 0
 MadeHeaderIsReadBack =
     (has : List ℕ → Bool) (line : ℕ) (text : List ℕ) (plain : Job) → HasTexts has → parse_header_job has Make line text ≡ Ok plain
@@ -141,8 +141,8 @@ GeneratedTextIsReadBack =
     → HasAllowedEvents purpose events
     → parse_job has purpose (generated_text seed parties events) ≡ Ok (told_job purpose (plain_job seed parties), generated_events seed parties events)
 
--- Its run, with the fair finish that the job asks for, is the one of which the number's summary
--- tells. No strategy is asked.
+-- Its run, with the fair finish that the job asks for, is the one that the number's summary sums
+-- up. No strategy is asked.
 abbrev pub GeneratedRunIsSummed : Type 0
 GeneratedRunIsSummed =
     (answers : Answers) (seed parties events : ℕ)

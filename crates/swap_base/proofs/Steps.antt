@@ -51,7 +51,7 @@ pub any_map : {A B : Type 0} (f : A → B) (p : B → Bool) (xs : List A) → li
 any_map f p [] = refl
 any_map f p (x ∷ xs) = ap (λ (b : Bool). p (f x) || b) (any_map f p xs)
 
--- the same where an element holds no memory, and is read as it stands
+-- one step further where an element holds no memory, and is read as it stands
 pub steps_on_at : {S A R : Type 0} (f : S → A → Result S R) (s t : S) (xs : List A) (i : ℕ) (d : A) (total : Result S R) → i < length xs
     → f s (get_or xs i d) ≡ Ok t → steps f s (drop i xs) ≡ total → steps f t (drop (i + 1) xs) ≡ total
 unfolding steps

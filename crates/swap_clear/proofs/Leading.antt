@@ -17,7 +17,7 @@ use Rattle.leader_check.specs.Levels.{greatest_level}
 use Rattle.leader_check.proofs.Walks.{through}
 use Rattle.leader_check.proofs.Heights.{is_height}
 use Rattle.time_bounds.specs.Times.{need}
-use Rattle.swap_clear.specs.Groups.{strong_component, place, find_party}
+use Rattle.swap_clear.specs.Groups.{strong_component, index_in_set, find_party}
 use Rattle.swap_clear.specs.Leaders.{order, other_leaders, choose_leaders, party_cycle}
 use Rattle.swap_clear.specs.Led.{own_leaders, Remain, IsLed, HasCycles, NoFewerLead, IsBound}
 use Rattle.swap_clear.proofs.Cyclic.{true_false, not_it, never, from_map, map_back}
@@ -114,7 +114,7 @@ module _ (g : Graph) (has : HasEnds g) (v : ℕ) (party : v < g.n) (head : is_he
 
   pub own_places : own_leaders (the_group g v) ≡ choose_leaders (own_with g v)
   own_places =
-      map_back (find_party (strong_component g v)) (place (strong_component g v)) (choose_leaders (own_with g v)) (λ k i.
+      map_back (find_party (strong_component g v)) (index_in_set (strong_component g v)) (choose_leaders (own_with g v)) (λ k i.
       place_back (strong_component g v) set_rises k (lead_in (own_with g v) k i))
 
   pub own_some : 0 < length (own_with g v).arcs
@@ -191,18 +191,18 @@ module _ (g : Graph) (has : HasEnds g) (v : ℕ) (party : v < g.n) (head : is_he
     where
       at_place : (i : ℕ) → i < length (choose_leaders (own_with g v))
           → IsShortestFollowerCycle (own_with g v) (other_leaders (get_or (own_leaders (the_group g v)) i 0) (own_leaders (the_group g v)))
-          (get_or (own_leaders (the_group g v)) i 0) (map (place (strong_component g v)) (get_or (the_group g v).cycles i []))
+          (get_or (own_leaders (the_group g v)) i 0) (map (index_in_set (strong_component g v)) (get_or (the_group g v).cycles i []))
       at_place i low =
           let k = get_or (choose_leaders (own_with g v)) i 0 in
           let stands = in_place (choose_leaders (own_with g v)) i 0 low in
-          let back : map (place (strong_component g v)) (get_or (the_group g v).cycles i []) ≡ party_cycle (own_with g v) (choose_leaders (own_with g v)) k =
-          ap (map (place (strong_component g v)))
+          let back : map (index_in_set (strong_component g v)) (get_or (the_group g v).cycles i []) ≡ party_cycle (own_with g v) (choose_leaders (own_with g v)) k =
+          ap (map (index_in_set (strong_component g v)))
           (get_or-map (λ (j : ℕ). map (find_party (strong_component g v)) (party_cycle (own_with g v) (choose_leaders (own_with g v)) j))
           (choose_leaders (own_with g v)) i 0 [] low)
-          ∙ map_back (find_party (strong_component g v)) (place (strong_component g v)) (party_cycle (own_with g v) (choose_leaders (own_with g v)) k) (λ x j.
+          ∙ map_back (find_party (strong_component g v)) (index_in_set (strong_component g v)) (party_cycle (own_with g v) (choose_leaders (own_with g v)) k) (λ x j.
           place_back (strong_component g v) set_rises x (cycle_below k x stands j)) in
           subst (λ (xs : List ℕ). IsShortestFollowerCycle (own_with g v) (other_leaders (get_or xs i 0) xs) (get_or xs i 0)
-          (map (place (strong_component g v)) (get_or (the_group g v).cycles i []))) (sym own_places)
+          (map (index_in_set (strong_component g v)) (get_or (the_group g v).cycles i []))) (sym own_places)
           (subst (λ (c : List ℕ). IsShortestFollowerCycle (own_with g v) (other_leaders k (choose_leaders (own_with g v))) k c) (sym back) (cycle_is k stands))
 
   -- No fewer lead.

@@ -16,7 +16,7 @@ use Rattle.digraph_check.proofs.Walks.{Along, goes_on, is_there, at_once, along,
 use Rattle.digraph_check.proofs.ListTests.{among_where, where_among, where_ascends}
 use Rattle.digraph_check.proofs.Paths.{reaches_path, walk_reaches}
 use Rattle.leader_check.proofs.Followers.{arc_from}
-use Rattle.swap_clear.specs.Groups.{strong_component, place, find_party, own_ends}
+use Rattle.swap_clear.specs.Groups.{strong_component, index_in_set, find_party, own_ends}
 use Rattle.swap_clear.proofs.Cyclic.{on_to}
 use Rattle.swap_clear.proofs.Together.{is_with, is_inside, with_turn, with_on, in_group, from_group}
 use Rattle.swap_clear.proofs.Gathered.{arcs_with, own_with}
@@ -58,14 +58,14 @@ range_up n = subst (λ (xs : List ℕ). IsStrictlyIncreasing xs) (all_kept (rang
 -- Places.
 
 pub record Stands (set : List ℕ) (w : ℕ) : Type 0 where
-  pub below : place set w < length set
-  pub is : find_party set (place set w) ≡ w
+  pub below : index_in_set set w < length set
+  pub is : find_party set (index_in_set set w) ≡ w
 
 found : (set : List ℕ) (w : ℕ) (o : Option ℕ) → position (λ x. x == w) set ≡ o → (o ≡ None → ⊥) → Stands set w
 found set w None e n = absurd (n refl)
 found set w (Some k) e n =
     let p = position-Some (λ x. x == w) set k 0 e in
-    let here : place set w ≡ k = ap (λ (o : Option ℕ). unwrap_or o 0) e in
+    let here : index_in_set set w ≡ k = ap (λ (o : Option ℕ). unwrap_or o 0) e in
     record {
       below = subst (λ (m : ℕ). m < length set) (sym here) p.0;
       is = ap (λ (m : ℕ). get_or set m 0) here ∙ eqb-true (get_or set k 0) w p.1;
@@ -89,10 +89,10 @@ stands set w i = found set w (position (λ x. x == w) set) refl (λ none. not_no
     not_none : position_or_len (λ x. x == w) set < length set → position (λ x. x == w) set ≡ None → ⊥
     not_none lt e = cc (e, lt-ltb (position_or_len (λ x. x == w) set) (length set) lt)
 
-pub place_back : (set : List ℕ) → IsStrictlyIncreasing set → (k : ℕ) → k < length set → place set (find_party set k) ≡ k
+pub place_back : (set : List ℕ) → IsStrictlyIncreasing set → (k : ℕ) → k < length set → index_in_set set (find_party set k) ≡ k
 place_back set up k lt =
     let s = stands set (find_party set k) (in-is_listed (find_party set k) set (in_place set k 0 lt)) in
-    apart set up (place set (find_party set k)) k s.below lt s.is
+    apart set up (index_in_set set (find_party set k)) k s.below lt s.is
 
 -- The own digraph of a group.
 
@@ -130,28 +130,28 @@ module _ (g : Graph) (has : HasEnds g) (v : ℕ) (party : v < g.n) where
       within k l = let e = arcs_length in omega (arith, e)
 
   own_arc : (u w : ℕ) → is_listed u (strong_component g v) ≡ true → is_listed w (strong_component g v) ≡ true → has_arc g u w ≡ true
-      → has_arc (own_with g v) (place (strong_component g v) u) (place (strong_component g v) w) ≡ true
+      → has_arc (own_with g v) (index_in_set (strong_component g v) u) (index_in_set (strong_component g v) w) ≡ true
   own_arc u w iu iw e =
       let a = arc_number g.arcs u w e in
       let here = is_listed-true a.number (arcs_with g v) (among_where (is_inside g (strong_component g v)) (length g.arcs) a.number a.stands
       (and_both (is_listed (ends g a.number).from (strong_component g v)) (is_listed (ends g a.number).to (strong_component g v))
       (subst (λ (x : ℕ). is_listed x (strong_component g v) ≡ true) (sym a.from) iu) (subst (λ (x : ℕ). is_listed x (strong_component g v)
       ≡ true) (sym a.to) iw))) in
-      arc_from (own_with g v) (own_ends (strong_component g v) (ends g a.number)) (place (strong_component g v) u) (place (strong_component g v) w)
-      (in_map (λ b. own_ends (strong_component g v) (ends g b)) (arcs_with g v) a.number here) (ap (place (strong_component g v)) a.from) (ap (place
+      arc_from (own_with g v) (own_ends (strong_component g v) (ends g a.number)) (index_in_set (strong_component g v) u) (index_in_set (strong_component g v) w)
+      (in_map (λ b. own_ends (strong_component g v) (ends g b)) (arcs_with g v) a.number here) (ap (index_in_set (strong_component g v)) a.from) (ap (index_in_set
       (strong_component g v)) a.to)
 
   -- a walk between parties of the group stays in it
   own_walk : (k u w : ℕ) → is_listed u (strong_component g v) ≡ true → is_listed w (strong_component g v) ≡ true → reaches_in_arcs g k u w ≡ true
-      → reaches_in_arcs (own_with g v) k (place (strong_component g v) u) (place (strong_component g v) w) ≡ true
-  own_walk zero u w iu iw r = is_there (own_with g v) 0 _ _ (ap (place (strong_component g v)) (at_once g u w r))
+      → reaches_in_arcs (own_with g v) k (index_in_set (strong_component g v) u) (index_in_set (strong_component g v) w) ≡ true
+  own_walk zero u w iu iw r = is_there (own_with g v) 0 _ _ (ap (index_in_set (strong_component g v)) (at_once g u w r))
   own_walk (suc k) u w iu iw r = go (goes_on g k u w r) (λ x. own_walk k x w)
     where
       go : (u ≡ w) ⊎ Along g k u w
           → ((x : ℕ) → is_listed x (strong_component g v) ≡ true → is_listed w (strong_component g v) ≡ true → reaches_in_arcs g k x w ≡ true
-          → reaches_in_arcs (own_with g v) k (place (strong_component g v) x) (place (strong_component g v) w) ≡ true)
-          → reaches_in_arcs (own_with g v) (suc k) (place (strong_component g v) u) (place (strong_component g v) w) ≡ true
-      go (inl e) rest = is_there (own_with g v) (suc k) _ _ (ap (place (strong_component g v)) e)
+          → reaches_in_arcs (own_with g v) k (index_in_set (strong_component g v) x) (index_in_set (strong_component g v) w) ≡ true)
+          → reaches_in_arcs (own_with g v) (suc k) (index_in_set (strong_component g v) u) (index_in_set (strong_component g v) w) ≡ true
+      go (inl e) rest = is_there (own_with g v) (suc k) _ _ (ap (index_in_set (strong_component g v)) e)
       go (inr a) rest =
           let mu = from_group g v u iu in
           let mw = from_group g v w iw in
@@ -161,7 +161,7 @@ module _ (g : Graph) (has : HasEnds g) (v : ℕ) (party : v < g.n) where
           let back = on_to g a.next w v a.party (walk_reaches g k a.next w a.party a.rest) (and_parts _ _ mw.1).1 in
           let ix = in_group g v a.next a.party (and_both _ _ there back) in
           let s = stands (strong_component g v) a.next ix in
-          along (own_with g v) k (place (strong_component g v) u) (place (strong_component g v) a.next) (place (strong_component g v) w) s.below
+          along (own_with g v) k (index_in_set (strong_component g v) u) (index_in_set (strong_component g v) a.next) (index_in_set (strong_component g v) w) s.below
           (own_arc u a.next iu ix a.arc) (rest a.next ix iw a.rest)
 
   reach_inside : (u w : ℕ) → is_listed u (strong_component g v) ≡ true → is_listed w (strong_component g v) ≡ true → reaches g u w ≡ true
@@ -181,7 +181,7 @@ module _ (g : Graph) (has : HasEnds g) (v : ℕ) (party : v < g.n) where
       let pj = place_back (strong_component g v) up j lj in
       walk_reaches (own_with g v) g.n i j li
       (subst (λ (y : ℕ). reaches_in_arcs (own_with g v) g.n i y ≡ true) pj
-      (subst (λ (x : ℕ). reaches_in_arcs (own_with g v) g.n x (place (strong_component g v) (find_party (strong_component g v) j)) ≡ true) pi walk))
+      (subst (λ (x : ℕ). reaches_in_arcs (own_with g v) g.n x (index_in_set (strong_component g v) (find_party (strong_component g v) j)) ≡ true) pi walk))
 
   pub own_strong : IsStronglyConnected (own_with g v)
   own_strong i j li lj differ = let r = reaches_path (own_with g v) i j li (own_reaches i j li lj) in (r.vertices, r.between)

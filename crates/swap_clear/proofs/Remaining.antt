@@ -25,7 +25,7 @@ filter_short p (x ∷ xs) = go (p x) (filter_short p xs)
     go true r = omega (arith, r)
     go false r = omega (arith, r)
 
--- two tests of which none passes both
+-- where nothing passes both of two tests, a list holds at least what passes the one or the other
 two_filters : (p q : ℕ → Bool) (xs : List ℕ) → ((x : ℕ) → IsElement x xs → p x ≡ true → q x ≡ true → ⊥) → length (filter p xs) + length (filter q xs) ≤ length xs
 two_filters p q [] h = omega arith
 two_filters p q (x ∷ xs) h = go (p x) (q x) refl refl (two_filters p q xs (λ y i. h y (inr i)))

@@ -30,15 +30,15 @@ abbrev pub inner_arcs : Graph → List ℕ → List ℕ
 inner_arcs g set = filter (λ a. is_listed (ends g a).from set && is_listed (ends g a).to set) (arcs g)
 
 -- where v stands in the set
-abbrev pub place : List ℕ → ℕ → ℕ
-place set v = unwrap_or (position (λ w. w == v) set) 0
+abbrev pub index_in_set : List ℕ → ℕ → ℕ
+index_in_set set v = unwrap_or (position (λ w. w == v) set) 0
 
 -- the party at that place of the set
 abbrev pub find_party : List ℕ → ℕ → ℕ
 find_party set k = slice_index set k
 
 abbrev pub own_ends : List ℕ → ArcEnds → ArcEnds
-own_ends set e = record { from = place set e.from; to = place set e.to }
+own_ends set e = record { from = index_in_set set e.from; to = index_in_set set e.to }
 
 -- the set's own digraph: its parties by their places, and those arcs in order
 abbrev pub own_graph : Graph → List ℕ → List ℕ → Graph

@@ -8,7 +8,7 @@ use Rattle.swap_digraph.specs.Graph.{parties, is_listed, IsFeedback, IsHeight}
 use Rattle.time_bounds.specs.Times.{need}
 use Rattle.leader_check.specs.Cycles.{IsShortestFollowerCycle}
 use Rattle.swap_clear.specs.declared.answer.Group.{Group}
-use Rattle.swap_clear.specs.Groups.{place, own_graph}
+use Rattle.swap_clear.specs.Groups.{index_in_set, own_graph}
 use Rattle.swap_clear.specs.Leaders.{touching_count, other_leaders}
 
 -- the group's own digraph
@@ -17,7 +17,7 @@ own g group = own_graph g group.parties group.arcs
 
 -- its leaders, by their places
 abbrev pub own_leaders : Group → List ℕ
-own_leaders group = map (place group.parties) group.leaders
+own_leaders group = map (index_in_set group.parties) group.leaders
 
 -- u is tried before v: fewer arcs touch it, or as many and its number is less.
 abbrev pub IsTriedEarlier : Graph → ℕ → ℕ → Type 0
@@ -41,7 +41,7 @@ Remain g leaders (v ∷ order) rest =
     (IsFeedback g (other_leaders v leaders) × Remain g (other_leaders v leaders) order rest)
     ⊎ ((IsFeedback g (other_leaders v leaders) → ⊥) × Remain g leaders order rest)
 
--- So many leaders remain of all parties of the digraph, tried in order.
+-- This many leaders remain of all parties of the digraph, tried in order.
 pub record SoManyRemain (g : Graph) (count : ℕ) : Type 0 where
   pub order : List ℕ
   pub is_order : IsOrder g order
@@ -65,7 +65,7 @@ pub record HasCycles (g : Graph) (group : Group) : Type 0 where
   pub parties : (list : List ℕ) (v : ℕ) → IsElement list group.cycles → IsTrue (is_listed v list) → IsTrue (is_listed v group.parties)
   pub cycle : (i : ℕ) → i < length group.leaders
       → IsShortestFollowerCycle (own g group) (other_leaders (slice_index (own_leaders group) i) (own_leaders group)) (slice_index (own_leaders group) i)
-      (map (place group.parties) (slice_index_or group.cycles i []))
+      (map (index_in_set group.parties) (slice_index_or group.cycles i []))
 
 -- No proper part of the leaders is a feedback vertex set.
 abbrev pub NoFewerLead : Graph → Group → Type 0

@@ -35,7 +35,7 @@ proposed_amount arcs a = (slice_index_or arcs a (record { from = 0; to = 0; amou
 abbrev pub own_amounts : List Proposed → Group → List ℕ
 own_amounts arcs group = map (proposed_amount arcs) group.arcs
 
--- With any start and delta that an accepted deal may have, the group makes such a deal.
+-- With any start and delta that an accepted deal may have, the group makes an accepted deal.
 abbrev pub MakesADeal : Graph → List Proposed → Group → Type 0
 MakesADeal g arcs group =
     (start delta : ℕ) → (1 ≤ delta) × (delta ≤ 100) → (delta ≤ start) × (start ≤ 1000)

@@ -4,7 +4,7 @@ ghost use Rattle.std.specs.Prelude.{◌≡◌, ◌==◌, ◌&&◌, ◌<◌, ◌�
 ghost use Rattle.swap_base.specs.Lists.{IsElement};
 ghost use Rattle.swap_digraph.specs.Graph.{HasEnds, ends, is_listed};
 ghost use Rattle.leader_check.specs.Cycles.{has_bit};
-ghost use Rattle.swap_clear.specs.Groups.{strong_component, inner_arcs, place, find_party, own_ends, own_graph};
+ghost use Rattle.swap_clear.specs.Groups.{strong_component, inner_arcs, index_in_set, find_party, own_ends, own_graph};
 ghost use Rattle.swap_clear.specs.Rows.{TellsReach};
 
 use crate::reach::reaches;
@@ -71,9 +71,9 @@ fn find_place(set: &[PartyId], v: PartyId) -> Option<usize>
 }
 
 /// Where v stands in the set.
-fn place(set: &[PartyId], v: PartyId) -> u8
+fn index_in_set(set: &[PartyId], v: PartyId) -> u8
     requires { length set.now ≤ 32 }
-    ensures { result ≡ place set.now v }
+    ensures { result ≡ index_in_set set.now v }
 {
     match find_place(set, v) {
         Some(k) => k as u8,
@@ -86,8 +86,8 @@ fn own_ends(set: &[PartyId], ends: ArcEnds) -> ArcEnds
     ensures { result ≡ own_ends set.now ends }
 {
     ArcEnds {
-        from: place(set, ends.from),
-        to: place(set, ends.to),
+        from: index_in_set(set, ends.from),
+        to: index_in_set(set, ends.to),
     }
 }
 

@@ -11,7 +11,7 @@ use Rattle.swap_world.specs.Gone.{MayGive}
 use Rattle.clear_line.specs.ClearedText.{cleared_line, IsClearedLine}
 use Rattle.swap_commands.specs.Cleared.{IsCleared, IsFurther}
 use Rattle.command_input.specs.Faults.{named_fault, of_offer}
-use Rattle.command_input.specs.Input.{At, Desk, Ends, GivesLine, IsLast, IsLine, Stops, Tells, ahead, desk, fresh}
+use Rattle.command_input.specs.Input.{InputProgress, Desk, Ends, GivesLine, IsLast, IsLine, Stops, Tells, ahead, desk, fresh}
 use Rattle.swap_commands.specs.Output.{refuse_further_line, clear_output, refusal_names, no_chance, output_given_chance, plain_text, wish_lines_output}
 use Rattle.swap_commands.specs.Says.{IsCommandRefusal, StatusSays}
 use Rattle.command_input.specs.declared.fault.InputFault.{InputFault}
@@ -59,12 +59,12 @@ module _ (has : List ℕ → Bool) where
   -- ---- what is said against an input
 
   -- it has no line
-  pub empty_stops : (more : Bool) (left : Option (List ℕ)) (n : ℕ) (s : At) (now : Desk) (fault : InputFault Refusal) → s ≡ fresh → more ≡ false
+  pub empty_stops : (more : Bool) (left : Option (List ℕ)) (n : ℕ) (s : InputProgress) (now : Desk) (fault : InputFault Refusal) → s ≡ fresh → more ≡ false
       → GivesLine more (desk left n s) now → fault ≡ Refused (record { reason = NotJson 1; names = [] })
       → Stops (IsCommandRefusal has Clear) (desk left n fresh) now fault
   empty_stops more left n s now fault first none given is =
       let old : Desk = desk left n fresh in
-      let p : IsLast old now = last_run more old now none (subst (λ (x : At). GivesLine more (desk left n x) now) first given) in
+      let p : IsLast old now = last_run more old now none (subst (λ (x : InputProgress). GivesLine more (desk left n x) now) first given) in
       let t : Tells (λ bytes. IsCommandRefusal has Clear bytes (record { reason = NotJson 1; names = [] })) old now = record {
         bytes = p.bytes;
         stands = p.stands;
@@ -90,12 +90,12 @@ module _ (has : List ℕ → Bool) where
         (line_fails now.at.number now.at.text (ahead now.at rest) r fails) refl;
   }
 
-  pub line_stops : (more : Bool) (left : Option (List ℕ)) (n : ℕ) (s : At) (now : Desk) (fault : Fault Reason) (line : ℕ) (text : List ℕ) → s ≡ fresh
+  pub line_stops : (more : Bool) (left : Option (List ℕ)) (n : ℕ) (s : InputProgress) (now : Desk) (fault : Fault Reason) (line : ℕ) (text : List ℕ) → s ≡ fresh
       → more ≡ true → GivesLine more (desk left n s) now → line ≡ now.at.number → text ≡ now.at.text → Fails fault (cleared_line line text)
       → Stops (IsCommandRefusal has Clear) (desk left n fresh) now (named_fault [] (of_offer fault))
   line_stops more left n s now fault line text first some given number same fails =
       let p : IsLine (desk left n fresh) now =
-      line_of more (desk left n fresh) now some (subst (λ (x : At). GivesLine more (desk left n x) now) first given) in
+      line_of more (desk left n fresh) now some (subst (λ (x : InputProgress). GivesLine more (desk left n x) now) first given) in
       let f : Fails fault (cleared_line now.at.number text) = subst (λ (k : ℕ). Fails fault (cleared_line k text)) number fails in
       against_line left n now fault p (subst (λ (t : List ℕ). Fails fault (cleared_line now.at.number t)) same f)
 
@@ -112,7 +112,7 @@ module _ (has : List ℕ → Bool) where
 
   -- ---- what the command says
 
-  pub says_clear : (may : MayGive) (left left' : Option (List ℕ)) (n m : ℕ) (taken taken' : Option (List ℕ)) (p q : ℕ) (now : At) (text : List ℕ)
+  pub says_clear : (may : MayGive) (left left' : Option (List ℕ)) (n m : ℕ) (taken taken' : Option (List ℕ)) (p q : ℕ) (now : InputProgress) (text : List ℕ)
       (status : Status) (e : Ends (λ bytes. IsCleared bytes text) (desk left n fresh) (desk left' m now)) → StatusWrites taken taken' p q (plain_text text) status
       → StatusSays (given_strategies has may) Clear (streams left n taken p) (streams left' m taken' q) status
   says_clear may left left' n m taken taken' p q now text status e w =

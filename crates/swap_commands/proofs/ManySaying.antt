@@ -21,7 +21,7 @@ use Rattle.many_lines.specs.Heading.{HeadingState, finish_told}
 use Rattle.many_lines.specs.Places.{job_of_swap}
 use Rattle.many_lines.specs.Whole.{AreSwaps}
 use Rattle.many_lines.specs.declared.many_job.ManyJob.{ManyJob}
-use Rattle.command_input.specs.Input.{At, CanBeLeft, Desk, Ends, Stops, ahead, desk, fresh}
+use Rattle.command_input.specs.Input.{InputProgress, CanBeLeft, Desk, Ends, Stops, ahead, desk, fresh}
 use Rattle.swap_commands.specs.Many.{Headed, kept_after_finish, events_told, headed, many_of_lines, many_output, many_state, many_written, opened_places}
 use Rattle.swap_commands.specs.ManyRead.{AreRun, IsHeading, IsManyPlayed, new_worlds, places_after_events}
 use Rattle.swap_commands.specs.Output.{AreGiven, by_many, reason_alone, refusal_names, names_told, output_given_chance}
@@ -218,7 +218,7 @@ module _ (has : List ℕ → Bool) where
         (gives_many g bytes (record { many = many; finish = finish; lines = k.lines }) k.events k.begun.places k.is_headed k.are_told k.begun.are_placed
         ∙ ap (λ (z : Kept). let r : Result Written Refusal = Ok (many_written many z) in r) (sym state_is))
 
-  pub says_many : (gives : MayGive) (left left' : Option (List ℕ)) (n m : ℕ) (taken taken' : Option (List ℕ)) (p q : ℕ) (now : At) (many : ManyJob)
+  pub says_many : (gives : MayGive) (left left' : Option (List ℕ)) (n m : ℕ) (taken taken' : Option (List ℕ)) (p q : ℕ) (now : InputProgress) (many : ManyJob)
       (finish : Finish) (w last : ManyState) (status : Status)
       (e : Ends (λ bytes. IsManyPlayed has gives bytes many finish w) (desk left n fresh) (desk left' m now))
       → AreSwaps many → HasManyGone gives (kept_after_finish finish) w last → StatusWrites taken taken' p q (many_written many (many_kept last)) status

@@ -30,7 +30,7 @@ use Rattle.swap_many.specs.Chains.{Setup, opening_units, set_aside}
 use Rattle.swap_many.specs.Kept.{kept_start}
 use Rattle.swap_many.specs.Laws.{CanCome, IsReadySetup}
 use Rattle.swap_many.specs.Opened.{account_lack, chain_lack, overdrawn}
-use Rattle.swap_many.specs.Opening.{AreOpenable, opened, setup_of_worlds}
+use Rattle.swap_many.specs.Opening.{AreOpenable, opened_swaps, setup_of_worlds}
 use Rattle.swap_many.specs.Ticking.{nth}
 use Rattle.swap_many.specs.Value.{AreAllHeld, AreSame, ManyState, many_kept, world_setup, nth_world}
 use Rattle.swap_many.proofs.Accounts.{any_default}
@@ -136,7 +136,7 @@ places_fail many refusal e =
 
 pub are_opened : (many : ManyJob) (places : List (List Place)) (w : ManyState) → AreSwaps many → ArePlaced many places → find_places many ≡ Ok places
     → AreOpenable many.units (map new_world many.jobs) places
-    → opened many.units (map new_world many.jobs) places ≡ Ok w → AreOpenedWorlds many w
+    → opened_swaps many.units (map new_world many.jobs) places ≡ Ok w → AreOpenedWorlds many w
 are_opened many places w swaps placed e opening_deadline made =
     let k = was_opened (overdrawn (setup_of_worlds (map new_world many.jobs) places many.units)) (new_worlds many places) w made in
     let none : overdrawn (setup_with_answers (λ s k. None) many places) ≡ None = sym (lacks_as many places) ∙ k.0 in
@@ -150,7 +150,7 @@ are_opened many places w swaps placed e opening_deadline made =
 
 -- an account lacks units
 pub is_lacking : (many : ManyJob) (places : List (List Place)) (lack : Overdrawn) → find_places many ≡ Ok places
-    → opened many.units (map new_world many.jobs) places ≡ Err lack → opened_places many ≡ unless_lacking many (Some lack) places
+    → opened_swaps many.units (map new_world many.jobs) places ≡ Err lack → opened_places many ≡ unless_lacking many (Some lack) places
 is_lacking many places lack e made =
     opened_by many places (Some lack) e (sym (lacks_as many places)
     ∙ was_refused (overdrawn (setup_of_worlds (map new_world many.jobs) places many.units)) (new_worlds many places) lack made)
@@ -189,7 +189,7 @@ lack_is_known m l e =
     in_list xs past x m = subst (λ (ys : List ℕ). IsElement x ys) (sym m.1) (in_from_moment past x m.0)
 
 pub known_lack : (many : ManyJob) (places : List (List Place)) (lack : Overdrawn)
-    → opened many.units (map new_world many.jobs) places ≡ Err lack → IsAccount many.units lack
+    → opened_swaps many.units (map new_world many.jobs) places ≡ Err lack → IsAccount many.units lack
 known_lack many places lack made =
     lack_is_known (setup_of_worlds (map new_world many.jobs) places many.units) lack
     (was_refused (overdrawn (setup_of_worlds (map new_world many.jobs) places many.units)) (new_worlds many places) lack made)

@@ -29,7 +29,7 @@ use Rattle.made_jobs.specs.Making.{copied, line_step, with_copied_line, written_
 use Rattle.made_jobs.proofs.Copying.{lines_put}
 use Rattle.offer_fields.proofs.Chains.{went}
 use Rattle.command_input.specs.Written.{Written}
-use Rattle.swap_commands.specs.Output.{AreGiven, command_cast, run_state, collected_book, finished_state, book_report, reported, told}
+use Rattle.swap_commands.specs.Output.{AreGiven, command_cast, run_state, collected_book, finished_state, book_report, reported, written_check}
 use Rattle.swap_commands.specs.Recorded.{AreRecorded}
 use Rattle.swap_commands.specs.Promised.{IsPromised, IsRace, IsRun, IsCheck, IsMaking}
 use Rattle.party_threads.specs.Race.{IsRaceBook}
@@ -142,7 +142,7 @@ module _ (has : List ℕ → Bool) where
   -- A check.
 
   pub is_check : (line : ℕ) (text : List ℕ) (ls : List (ℕ × List ℕ)) (job : Job) (u : Unit {0}) (output : Written)
-      → parse_header_job has purposes.Check line text ≡ Ok job → folded_events skipped_event job 0 tt ls ≡ Ok u → output ≡ told job → IsAccepted job.deal
+      → parse_header_job has purposes.Check line text ≡ Ok job → folded_events skipped_event job 0 tt ls ≡ Ok u → output ≡ written_check job → IsAccepted job.deal
       → IsCheck (job_of_lines has purposes.Check ((line, text) ∷ ls)) output
   is_check line text ls job u output h r shown k =
       let p = replayed_by skipped_event job tt u ls r in

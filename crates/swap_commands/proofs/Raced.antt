@@ -29,7 +29,7 @@ use Rattle.swap_rules.specs.Laws.{IsOnTime}
 use Rattle.swap_world.specs.Actors.{ConformingHaveSeeds}
 use Rattle.offer_fields.proofs.Chains.{went}
 use Rattle.offer_fields.specs.Fields.{parse_data}
-use Rattle.offer_events.specs.Event.{asked, checked_event, conforming_crash, parse_event, outside_race}
+use Rattle.offer_events.specs.Event.{asked_event, checked_event, conforming_crash, parse_event, outside_race}
 use Rattle.offer_events.specs.Reading.{raw_event}
 use Rattle.swap_offer.specs.Job.{parse_events, limited_event, IsWholeJob}
 use Rattle.swap_offer.specs.Wallets.{HaveWallets}
@@ -46,10 +46,10 @@ not_outside line purposes.Make rest e is ok = cc is
 not_outside line purposes.Audit rest e is ok = cc is
 
 no_event : (job : Job) (line : ℕ) (text : List ℕ) (e : Event) → job.purpose ≡ purposes.Race → parse_event job line text ≡ Ok e → ⊥
-unfolding parse_event asked
+unfolding parse_event asked_event
 no_event job line text e is ok =
-    let d = went (parse_data line text) (λ d. raw_event line d >>= λ raw. asked job line raw) e ok in
-    let raw = went (raw_event line d.0) (λ raw. asked job line raw) e d.2 in
+    let d = went (parse_data line text) (λ d. raw_event line d >>= λ raw. asked_event job line raw) e ok in
+    let raw = went (raw_event line d.0) (λ raw. asked_event job line raw) e d.2 in
     let event = went (checked_event job line raw.0)
     (λ event. outside_race line job.purpose >>= λ u. conforming_crash job.conforming line event >>= λ w. Ok event) e raw.2 in
     not_outside line job.purpose (λ u. conforming_crash job.conforming line event.0 >>= λ w. Ok event.0) e is event.2

@@ -23,11 +23,11 @@ use Rattle.command_input.specs.declared.fault.InputFault.{InputFault}
 use Rattle.command_input.specs.declared.fault.InputFault.TheVariants.{Refused}
 use Rattle.swap_commands.specs.Words.{OfJob, JobCommand, Check, Run, Race, Make}
 use Rattle.command_input.specs.Faults.{named_fault, of_offer}
-use Rattle.command_input.specs.Input.{At, Desk, Ends, GivesLine, IsLast, IsLine, Stops, Tells, ahead, desk, fresh, limit}
+use Rattle.command_input.specs.Input.{InputProgress, Desk, Ends, GivesLine, IsLast, IsLine, Stops, Tells, ahead, desk, fresh, limit}
 use Rattle.swap_gen.specs.Made.{made}
 use Rattle.made_jobs.specs.Making.{copied, written_line}
 use Rattle.swap_commands.specs.Output.{Chance, by_answers, by_book, command_cast, finished_state, refusal_names, no_chance, output_given_chance, command_purpose, reported}
-use Rattle.swap_commands.specs.Output.{told, plain_text}
+use Rattle.swap_commands.specs.Output.{written_check, plain_text}
 use Rattle.swap_commands.specs.Promised.{IsCheck, IsRace, IsRun, IsMaking}
 use Rattle.swap_commands.specs.Replay.{IsChecked, IsEntered, IsPlayed, IsReadInput, of_check, of_header, of_lines}
 use Rattle.swap_commands.specs.Replay.{of_race, of_run, skipped_event, folded_events, IsCopied, of_make}
@@ -91,7 +91,7 @@ module _ (has : List ℕ → Bool) where
   race_by b transcript n t ls job r h e = rw (h, e) refl
 
   check_by : (n : ℕ) (t : List ℕ) (ls : List (ℕ × List ℕ)) (job : Job) (r : Result (Unit {0}) Reason) → parse_header_job has purposes.Check n t ≡ Ok job
-      → folded_events skipped_event job 0 tt ls ≡ r → of_check has n t ls ≡ r >>= λ u. Ok (told job)
+      → folded_events skipped_event job 0 tt ls ≡ r → of_check has n t ls ≡ r >>= λ u. Ok (written_check job)
   unfolding of_check
   check_by n t ls job r h e = rw (h, e) refl
 
@@ -112,7 +112,7 @@ module _ (has : List ℕ → Bool) where
       by_lines (by_book b) (Race ticks transcript) bytes ((p.line, p.text) ∷ p.others) p.lines
       ∙ race_by b transcript p.line p.text p.others job (Ok tt) p.header p.leads
 
-  pub gives_check : (bytes : List ℕ) (job : Job) → IsChecked has bytes job → output_given_chance has no_chance (OfJob Check) bytes ≡ Ok (told job)
+  pub gives_check : (bytes : List ℕ) (job : Job) → IsChecked has bytes job → output_given_chance has no_chance (OfJob Check) bytes ≡ Ok (written_check job)
   gives_check bytes job p = by_lines no_chance Check bytes ((p.line, p.text) ∷ p.others) p.lines ∙ check_by p.line p.text p.others job (Ok tt) p.header p.leads
 
   pub gives_make : (bytes : List ℕ) (job : Job) (text : List ℕ) → IsCopied has bytes job text
@@ -146,19 +146,19 @@ module _ (has : List ℕ → Bool) where
   making_of_bytes bytes ls output e p = subst (λ (xs : List (ℕ × List ℕ)). IsMaking (job_of_lines has purposes.Make xs) output) (sym e) p
 
   -- the whole input was read, and it is no longer than it may be
-  pub set_contains_ends : (P : List ℕ → Type 0) (left left' : Option (List ℕ)) (n m : ℕ) (now : At) (e : Ends P (desk left n fresh) (desk left' m now))
+  pub set_contains_ends : (P : List ℕ → Type 0) (left left' : Option (List ℕ)) (n m : ℕ) (now : InputProgress) (e : Ends P (desk left n fresh) (desk left' m now))
       → length e.bytes ≤ limit
   set_contains_ends P left left' n m now e = omega (arith, e.stands.took.counted, e.stands.fits.within)
 
   -- What is said against an input.
 
   -- it has no line
-  pub empty_stops : (command : JobCommand) (more : Bool) (left : Option (List ℕ)) (n : ℕ) (s : At) (now : Desk) (fault : InputFault Refusal) → s ≡ fresh
+  pub empty_stops : (command : JobCommand) (more : Bool) (left : Option (List ℕ)) (n : ℕ) (s : InputProgress) (now : Desk) (fault : InputFault Refusal) → s ≡ fresh
       → more ≡ false → GivesLine more (desk left n s) now → fault ≡ Refused (record { reason = NotJson 1; names = [] })
       → Stops (IsCommandRefusal has (OfJob command)) (desk left n fresh) now fault
   empty_stops command more left n s now fault first none gives is =
       let old : Desk = desk left n fresh in
-      let p : IsLast old now = last_run more old now none (subst (λ (x : At). GivesLine more (desk left n x) now) first gives) in
+      let p : IsLast old now = last_run more old now none (subst (λ (x : InputProgress). GivesLine more (desk left n x) now) first gives) in
       let t : Tells (λ bytes. IsCommandRefusal has (OfJob command) bytes (record { reason = NotJson 1; names = [] })) old now = record {
         bytes = p.bytes;
         stands = p.stands;
@@ -192,13 +192,13 @@ module _ (has : List ℕ → Bool) where
             );
       }
 
-  pub header_stops : (command : JobCommand) (more : Bool) (left : Option (List ℕ)) (n : ℕ) (s : At) (now : Desk) (fault : Fault Refusal) (purpose : Purpose)
+  pub header_stops : (command : JobCommand) (more : Bool) (left : Option (List ℕ)) (n : ℕ) (s : InputProgress) (now : Desk) (fault : Fault Refusal) (purpose : Purpose)
       (line : ℕ) (text : List ℕ) → s ≡ fresh → more ≡ true → GivesLine more (desk left n s) now → purpose ≡ command_purpose command
       → line ≡ now.at.number → text ≡ now.at.text → Fails fault (named_result (header_names has purpose line text) (parse_header_job has purpose line text))
       → Stops (IsCommandRefusal has (OfJob command)) (desk left n fresh) now (of_offer fault)
   header_stops command more left n s now fault purpose line text first some gives asked number same fails =
       let p : IsLine (desk left n fresh) now =
-      line_of more (desk left n fresh) now some (subst (λ (x : At). GivesLine more (desk left n x) now) first gives) in
+      line_of more (desk left n fresh) now some (subst (λ (x : InputProgress). GivesLine more (desk left n x) now) first gives) in
       let f : Fails fault (named_result (header_names has (command_purpose command) line text) (parse_header_job has (command_purpose command) line text)) =
       subst (λ (q : Purpose). Fails fault (named_result (header_names has q line text) (parse_header_job has q line text))) asked fails in
       let g : Fails fault (named_result (header_names has (command_purpose command) now.at.number text) (parse_header_job has (command_purpose command) now.at.number text)) =

@@ -34,7 +34,7 @@ use Rattle.swap_gen.specs.Made.{made}
 use Rattle.made_jobs.specs.Making.{copied, made_text, written_line}
 use Rattle.made_jobs.specs.Generating.{IsJobWorld}
 use Rattle.made_jobs.proofs.Copying.{made_is}
-use Rattle.swap_commands.specs.Output.{AreGiven, Chance, command_cast, command_purpose, finished_state, collected_book, reported, told, output_given_chance}
+use Rattle.swap_commands.specs.Output.{AreGiven, Chance, command_cast, command_purpose, finished_state, collected_book, reported, written_check, output_given_chance}
 use Rattle.swap_commands.specs.Output.{job_output, plain_text}
 use Rattle.swap_commands.specs.Recorded.{AreRecorded}
 use Rattle.swap_commands.specs.Walk.{lines_told}
@@ -120,7 +120,7 @@ of_some has a (Race ticks transcript) (l ∷ ls) =
     together (parse_header_job has purposes.Race l.0 l.1) (λ job. parse_events job 0 ls) (λ job. skipped_event) (λ job. tt)
     (λ job u. reported transcript job a.book) (λ j. reported transcript j.0 a.book) (λ job es. refl)
 of_some has a Check (l ∷ ls) = together (parse_header_job has (command_purpose Check) l.0 l.1) (λ job. parse_events job 0 ls) (λ job. skipped_event) (λ job. tt)
-    (λ job u. told job) (λ j. told j.0) (λ job es. refl)
+    (λ job u. written_check job) (λ j. written_check j.0) (λ job es. refl)
 of_some has a Make (l ∷ ls) = of_some_make has a l ls
 
 pub of_input : (has : List ℕ → Bool) (a : Chance) (command : JobCommand) (input : List ℕ)

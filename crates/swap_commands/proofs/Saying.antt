@@ -24,11 +24,11 @@ use Rattle.made_jobs.specs.Making.{IsMade}
 use Rattle.swap_commands.specs.Entered.{HasEntered}
 use Rattle.swap_commands.specs.Replay.{IsChecked, IsConcluded, IsEntered, IsPlayed, IsCopied}
 use Rattle.command_input.specs.Faults.{unread}
-use Rattle.command_input.specs.Input.{At, Drains, Ends, HasStopped, TookPart, IsTooLong, Stops, desk, fresh, limit}
+use Rattle.command_input.specs.Input.{InputProgress, Drains, Ends, HasStopped, TookPart, IsTooLong, Stops, desk, fresh, limit}
 use Rattle.command_input.specs.declared.fault.InputFault.{InputFault}
 use Rattle.command_input.specs.declared.fault.InputFault.TheVariants as fault
 use Rattle.command_input.proofs.Streams.{calm_unread, has_stopped}
-use Rattle.swap_commands.specs.Output.{AreGiven, Chance, by_answers, by_book, command_cast, finished_state, no_chance, output_given_chance, reported, told, plain_text}
+use Rattle.swap_commands.specs.Output.{AreGiven, Chance, by_answers, by_book, command_cast, finished_state, no_chance, output_given_chance, reported, written_check, plain_text}
 use Rattle.swap_commands.specs.Recorded.{AreRecorded}
 use Rattle.swap_commands.specs.Promised.{AsPromised}
 use Rattle.swap_commands.specs.Says.{HasRead, IsCommandRefusal, StatusSays}
@@ -43,7 +43,7 @@ use Rattle.swap_commands.proofs.Reading.{gives_make, making_of_bytes}
 use Rattle.swap_commands.specs.Strategies.{given_strategies}
 
 -- no more was taken than an input may have
-pub is_consumed : (left left' : Option (List ℕ)) (n m : ℕ) (now : At) → TookPart (desk left n fresh) (desk left' m now) → ConsumesAtMost left left' limit
+pub is_consumed : (left left' : Option (List ℕ)) (n m : ℕ) (now : InputProgress) → TookPart (desk left n fresh) (desk left' m now) → ConsumesAtMost left left' limit
 is_consumed left left' n m now t = (t.0.0, omega (arith, t.0.1.counted, t.1), t.0.1.consumed)
 
 -- nothing was taken
@@ -51,7 +51,7 @@ pub none_consumed : (left : Option (List ℕ)) → ConsumesAtMost left left limi
 none_consumed left = ([], omega arith, Consumes-nil left)
 
 -- more was taken than an input may have
-too_long : (left left' : Option (List ℕ)) (n m : ℕ) (now : At) → IsTooLong (desk left n fresh) (desk left' m now) → ConsumesSome left left' (limit + 1)
+too_long : (left left' : Option (List ℕ)) (n m : ℕ) (now : InputProgress) → IsTooLong (desk left n fresh) (desk left' m now) → ConsumesSome left left' (limit + 1)
 too_long left left' n m now t = (t.0.0, omega (arith, t.0.1.counted, t.1), t.0.1.consumed)
 
 module _ (has : List ℕ → Bool) where
@@ -73,7 +73,7 @@ module _ (has : List ℕ → Bool) where
 
   -- Where the reading stopped.
 
-  pub says_unread : (gives : MayGive) (command : Command) (left left' : Option (List ℕ)) (n m : ℕ) (now : At) (taken taken' : Option (List ℕ)) (p q : ℕ)
+  pub says_unread : (gives : MayGive) (command : Command) (left left' : Option (List ℕ)) (n m : ℕ) (now : InputProgress) (taken taken' : Option (List ℕ)) (p q : ℕ)
       → Keeps taken taken'
       → (f : InputFault Refusal) → HasStopped (IsCommandRefusal has command) (desk left n fresh) (desk left' m now) f
       → StatusSays (given_strategies has gives) command (streams left n taken p) (streams left' m taken' q) (unread f)
@@ -94,8 +94,8 @@ module _ (has : List ℕ → Bool) where
   says_unread gives command left left' n m now taken taken' p q k fault.NoMemory u = inl (k, is_consumed left left' n m now u.1)
   says_unread gives command left left' n m now taken taken' p q k fault.TooLong u = (too_long left left' n m now u.1, k)
 
-  -- the same of a stop that was drained, by the clauses of both calls
-  pub says_stopped : (gives : MayGive) (command : Command) (left left' left'' : Option (List ℕ)) (n m k : ℕ) (mid now : At) (taken : Option (List ℕ)) (p : ℕ)
+  -- the status of a command whose input stopped and was drained, by the clauses of both calls
+  pub says_stopped : (gives : MayGive) (command : Command) (left left' left'' : Option (List ℕ)) (n m k : ℕ) (mid now : InputProgress) (taken : Option (List ℕ)) (p : ℕ)
       (f answer : InputFault Refusal) → Stops (IsCommandRefusal has command) (desk left n fresh) (desk left' m mid) f
       → Drains (desk left' m mid) (desk left'' k now) f answer
       → StatusSays (given_strategies has gives) command (streams left n taken p) (streams left'' k taken p) (unread answer)
@@ -103,21 +103,21 @@ module _ (has : List ℕ → Bool) where
       says_unread gives command left left'' n k now taken taken p p (Keeps-refl taken) answer
       (has_stopped (IsCommandRefusal has command) (desk left n fresh) (desk left' m mid) (desk left'' k now) f answer s d)
 
-  pub calm_stopped : (command : Command) (left left' left'' : Option (List ℕ)) (n m k : ℕ) (mid now : At)
+  pub calm_stopped : (command : Command) (left left' left'' : Option (List ℕ)) (n m k : ℕ) (mid now : InputProgress)
       (f answer : InputFault Refusal) → Stops (IsCommandRefusal has command) (desk left n fresh) (desk left' m mid) f
       → Drains (desk left' m mid) (desk left'' k now) f answer → ¬ (unread answer ≡ ReadFault) → k ≡ n
   calm_stopped command left left' left'' n m k mid now f answer s d unless =
       calm_unread (IsCommandRefusal has command) (desk left n fresh) (desk left'' k now) answer
       (has_stopped (IsCommandRefusal has command) (desk left n fresh) (desk left' m mid) (desk left'' k now) f answer s d) unless
 
-  pub all_consumed : (P : List ℕ → Type 0) (left left' : Option (List ℕ)) (n m : ℕ) (now : At) → Ends P (desk left n fresh) (desk left' m now)
+  pub all_consumed : (P : List ℕ → Type 0) (left left' : Option (List ℕ)) (n m : ℕ) (now : InputProgress) → Ends P (desk left n fresh) (desk left' m now)
       → ConsumesAtMost left left' limit
   all_consumed P left left' n m now e = (e.bytes, set_contains_ends has P left left' n m now e, e.stands.took.consumed)
 
   -- What a command says whose input was read whole.
 
   module _ (gives : MayGive) (transcript : Bool) (left left' : Option (List ℕ)) (n m : ℕ) (taken taken' : Option (List ℕ)) (p q : ℕ) where
-    says_played : (a : Answers) (now : At) (job : Job) (s : State) (b : Histories) (status : Status)
+    says_played : (a : Answers) (now : InputProgress) (job : Job) (s : State) (b : Histories) (status : Status)
         (e : Ends (λ bytes. IsPlayed has a bytes job s) (desk left n fresh) (desk left' m now))
         → AreGiven gives job.deal a (finished_state job.finish (command_cast a job) s).asked
         → b ≡ (finished_state job.finish (command_cast a job) s).book → IsAccepted job.deal → IsKept (job_cast job) b
@@ -143,7 +143,7 @@ module _ (has : List ℕ → Bool) where
         status w
 
     -- the answers are those with which the world was finished
-    pub says_run : (now : At) (job : Job) (world : WorldState) (b : Histories) (status : Status)
+    pub says_run : (now : InputProgress) (job : Job) (world : WorldState) (b : Histories) (status : Status)
         → ((a : Answers) → Continues world a → Ends (λ bytes. IsPlayed has a bytes job world.state) (desk left n fresh) (desk left' m now))
         → IsConcluded gives job world b
         → IsAccepted job.deal → IsKept (job_cast job) b → (job.finish ≡ Fair → IsEnded job.deal b)
@@ -174,7 +174,7 @@ module _ (has : List ℕ → Bool) where
       status w
 
   -- the job of a race was read
-  pub has_entered : (left left' : Option (List ℕ)) (n m : ℕ) (now : At) (job : Job)
+  pub has_entered : (left left' : Option (List ℕ)) (n m : ℕ) (now : InputProgress) (job : Job)
       → Ends (λ bytes. IsEntered has bytes job) (desk left n fresh) (desk left' m now)
       → HasEntered has left left' job
   has_entered left left' n m now job e = record {
@@ -185,13 +185,13 @@ module _ (has : List ℕ → Bool) where
     entered = e.told;
   }
 
-  pub says_check : (gives : MayGive) (left left' : Option (List ℕ)) (n m : ℕ) (taken taken' : Option (List ℕ)) (p q : ℕ) (now : At) (job : Job)
+  pub says_check : (gives : MayGive) (left left' : Option (List ℕ)) (n m : ℕ) (taken taken' : Option (List ℕ)) (p q : ℕ) (now : InputProgress) (job : Job)
       (status : Status)
       (e : Ends (λ bytes. IsChecked has bytes job) (desk left n fresh) (desk left' m now))
-      → IsAccepted job.deal → StatusWrites taken taken' p q (told job) status
+      → IsAccepted job.deal → StatusWrites taken taken' p q (written_check job) status
       → StatusSays (given_strategies has gives) (OfJob Check) (streams left n taken p) (streams left' m taken' q) status
   says_check gives left left' n m taken taken' p q now job status e k w =
-      says_written gives no_chance (OfJob Check) left left' n m taken taken' p q (told job)
+      says_written gives no_chance (OfJob Check) left left' n m taken taken' p q (written_check job)
       (record {
         input = e.bytes;
         taken = e.stands.took.consumed;
@@ -200,11 +200,11 @@ module _ (has : List ℕ → Bool) where
         gives =
             gives_check has e.bytes job e.told;
       })
-      (check_of_bytes has e.bytes ((e.told.line, e.told.text) ∷ e.told.others) (told job) e.told.lines
-      (is_check has e.told.line e.told.text e.told.others job tt (told job) e.told.header e.told.leads refl k))
+      (check_of_bytes has e.bytes ((e.told.line, e.told.text) ∷ e.told.others) (written_check job) e.told.lines
+      (is_check has e.told.line e.told.text e.told.others job tt (written_check job) e.told.header e.told.leads refl k))
       status w
 
-  pub says_make : (gives : MayGive) (left left' : Option (List ℕ)) (n m : ℕ) (taken taken' : Option (List ℕ)) (p q : ℕ) (now : At) (job : Job)
+  pub says_make : (gives : MayGive) (left left' : Option (List ℕ)) (n m : ℕ) (taken taken' : Option (List ℕ)) (p q : ℕ) (now : InputProgress) (job : Job)
       (text : List ℕ) (status : Status)
       (e : Ends (λ bytes. IsCopied has bytes job text) (desk left n fresh) (desk left' m now))
       → IsMade job → StatusWrites taken taken' p q (plain_text text) status

@@ -7,7 +7,7 @@ use Rattle.swap_base.specs.declared.fault.Fault.TheVariants as offer
 use Rattle.command_input.specs.Faults.{of_offer}
 use Rattle.command_input.specs.Input.{CanBeLeft, Desk, Ends, Fits, IsLast, IsLine, Stops, Tells, ahead}
 use Rattle.command_input.proofs.Streams.{IsStepAt, Led, led_none, led_on_at, led_to_end, led_to_fault_at, stops_as}
-use Rattle.swap_commands.specs.Walk.{IsTaken, IsWalked, lines_told}
+use Rattle.swap_commands.specs.Walk.{HasTakenEvent, IsWalked, lines_told}
 
 -- What is said of an input that was read to its end.
 
@@ -92,7 +92,7 @@ module _ {E R : Type 0} (told : ℕ → ℕ → List ℕ → Result E R) where
     none_yet first fits = record { events = []; led = led_none gathered first [] fits; stepped = refl }
 
     pub one_more : (first s t : Desk) (count : ℕ) (now new : A) → IsOn first s count now → IsLine s t
-        → IsTaken leads (told count t.at.number t.at.text) now new → IsOn first t (count + 1) new
+        → HasTakenEvent leads (told count t.at.number t.at.text) now new → IsOn first t (count + 1) new
     one_more first s t count now new on line k = record {
       events = on.events ++ k.event ∷ [];
       led = led_on_at gathered first [] gather s t count on.events (on.events ++ k.event ∷ []) (gather_step count on.events) on.led line

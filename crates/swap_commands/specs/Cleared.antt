@@ -4,7 +4,7 @@ use Rattle.refusals.specs.declared.refusal.Refusal.{Refusal}
 use Rattle.command_input.specs.Lines.{collect_lines, filled_lines}
 use Rattle.command_input.specs.Written.{Written}
 use Rattle.clear_line.specs.ClearedText.{IsClearedLine}
-use Rattle.command_input.specs.Input.{At, ahead}
+use Rattle.command_input.specs.Input.{InputProgress, ahead}
 use Rattle.swap_commands.specs.Output.{refuse_further_line, plain_text}
 
 -- The input is one line of wishes, and the text is what is cleared of it.
@@ -15,7 +15,7 @@ pub record IsCleared (bytes text : List ℕ) : Type 0 where
   pub cleared : IsClearedLine line wishes text
 
 -- what is said against further lines
-abbrev pub IsFurther : At → List ℕ → Refusal → Type 0
+abbrev pub IsFurther : InputProgress → List ℕ → Refusal → Type 0
 IsFurther s bytes refusal = (refuse_further_line (ahead s bytes) ≡ Err refusal.reason) × (refusal.names ≡ [])
 
 -- what a clearing promises that wrote its output

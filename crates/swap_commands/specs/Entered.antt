@@ -11,7 +11,7 @@ use Rattle.swap_offer.specs.Job.{IsWholeJob}
 use Rattle.swap_offer.specs.Wallets.{HaveScripts, HaveWallets}
 use Rattle.swap_world.specs.Actors.{AreHeld}
 use Rattle.refusals.specs.declared.refusal.Refusal.{Refusal}
-use Rattle.command_input.specs.Input.{At, HasStopped, desk, fresh, limit}
+use Rattle.command_input.specs.Input.{InputProgress, HasStopped, desk, fresh, limit}
 use Rattle.command_input.specs.declared.fault.InputFault.{InputFault}
 use Rattle.swap_commands.specs.Replay.{IsEntered}
 use Rattle.swap_commands.specs.Says.{IsCommandRefusal}
@@ -40,6 +40,6 @@ pub record HasEntered (has : List ℕ → Bool) (left left' : Option (List ℕ))
 -- The race wasn't entered, and this is why the reading stopped. The reason depends neither on the
 -- race's ticks nor on the text that was asked for.
 pub record HasNotEntered (has : List ℕ → Bool) (left left' : Option (List ℕ)) (n m : ℕ) (fault : InputFault Refusal) : Type 0 where
-  pub now : At
+  pub now : InputProgress
   pub stopped : (ticks : ℕ) (transcript : Bool)
       → HasStopped (IsCommandRefusal has (OfJob (Race ticks transcript))) (desk left n fresh) (desk left' m now) fault

@@ -1,4 +1,4 @@
--- How an input of several swaps is read, line by line, and what their worlds come to.
+-- How an input of several swaps is read, line by line, and which state their worlds reach.
 use Rattle.std.specs.Prelude.{◌≡◌, ℕ, Bool, List, ◌++◌, map, fold, Result, Ok}
 use Rattle.std.specs.List.{All}
 use Rattle.swap_base.specs.Fault.{◌>>=◌}

@@ -78,8 +78,8 @@ abbrev pub AreGiven : MayGive → Deal → Answers → List Question → Type 0
 AreGiven gives d a asked = (i : ℕ) (q : Question) → i < length asked → q ≡ slice_index_or asked i q → gives q.strategy d q.party q.turn q.known (a i)
 
 -- what is told of a checked offer
-abbrev pub told : Job → Written
-told job = record { text = check_text job.deal; found = false }
+abbrev pub written_check : Job → Written
+written_check job = record { text = check_text job.deal; found = false }
 
 -- a text that tells of no finding
 abbrev pub plain_text : List ℕ → Written
@@ -115,7 +115,7 @@ by_many g = record { answers = λ k. None; book = []; many = g }
 abbrev pub job_output : Chance → JobCommand → List (ℕ × List ℕ) → Result (Job × List Event) Reason → Result Written Reason
 job_output chance (Run transcript) lines read = read >>= λ j. Ok (reported transcript j.0 (collected_book chance.answers j.0 j.1))
 job_output chance (Race ticks transcript) lines read = read >>= λ j. Ok (reported transcript j.0 chance.book)
-job_output chance Check lines read = read >>= λ j. Ok (told j.0)
+job_output chance Check lines read = read >>= λ j. Ok (written_check j.0)
 job_output chance Make lines read = read >>= λ j. Ok (plain_text (made_text j.0 (drop 1 lines)))
 
 -- no further line

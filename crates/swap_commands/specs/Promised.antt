@@ -38,7 +38,7 @@ use Rattle.party_threads.specs.Race.{IsRaceBook}
 use Rattle.swap_commands.specs.Cleared.{IsClearing}
 use Rattle.swap_commands.specs.Many.{Headed, events_told, headed, many_state, many_written, opened_places, finished_run}
 use Rattle.swap_commands.specs.Recorded.{AreRecorded}
-use Rattle.swap_commands.specs.Output.{AreGiven, Chance, collected_book, command_cast, run_state, command_purpose, book_report, reported, told}
+use Rattle.swap_commands.specs.Output.{AreGiven, Chance, collected_book, command_cast, run_state, command_purpose, book_report, reported, written_check}
 use Rattle.made_jobs.specs.Making.{IsMade}
 use Rattle.swap_commands.specs.Words.{Command, OfJob, Audit, Clear, Many, JobCommand, Check, Run, Race, Make}
 
@@ -75,7 +75,7 @@ pub record IsRun (gives : MayGive) (a : Answers) (transcript : Bool) (read : Res
   pub recorded : AreRecorded (command_cast a job) (run_state a job events)
   -- a fair finish ends every ledger
   pub ended : job.finish ≡ Fair → IsEnded job.deal (collected_book a job events)
-  -- and where all conform and no event came before it, nothing is found
+  -- a fair finish finds nothing where all conform and no event came before it
   pub fair : job.finish ≡ Fair → events ≡ [] → AllAreConforming job.deal job.conforming → (book_report job (collected_book a job events)).findings ≡ []
 
 -- A race that wrote its output, the report or the transcript: its job, as it was read without an
@@ -89,7 +89,7 @@ pub record IsRace (gives : MayGive) (b : Histories) (ticks : ℕ) (transcript : 
   pub promised : IsPromised job b (book_report job b)
   -- nobody is named late where two rounds' ticks fit in delta
   pub on_time : 2 * ticks ≤ job.deal.delta → (v : ℕ) (rule : Rule) (a due : ℕ) → ¬ IsElement (Late v rule a due) (book_report job b).findings
-  -- and where all conform besides, nothing is found
+  -- nothing is found where two rounds' ticks fit in delta and all conform
   pub dealt : 2 * ticks ≤ job.deal.delta → AllAreConforming job.deal job.conforming → (book_report job b).findings ≡ []
 
 -- A check that wrote its output: its job and its events, as they were read, and the deal is
@@ -98,7 +98,7 @@ pub record IsCheck (read : Result (Job × List Event) Reason) (output : Written)
   pub job : Job
   pub events : List Event
   pub is_read : read ≡ Ok (job, events)
-  pub shown : output ≡ told job
+  pub shown : output ≡ written_check job
   pub accepted : IsAccepted job.deal
 
 -- A plain job that was made: it was read, and what is made of it is accepted, with each party's own
@@ -135,7 +135,7 @@ pub record IsManyRun (has : List ℕ → Bool) (gives : MayGive) (g : ℕ → An
   -- a fair finish ends every ledger of every swap
   pub ended : head.finish ≡ Fair → (s : ℕ) → s < length head.many.jobs
       → IsEnded (job_of_swap head.many.jobs s).deal (swap_book (many_state g head.many places head.finish events) s)
-  -- and of a swap whose parties all conform it finds nothing, where no event came before it
+  -- a fair finish finds nothing of a swap whose parties all conform, where no event came before it
   pub fair : head.finish ≡ Fair → events ≡ [] → (s : ℕ) → s < length head.many.jobs
       → AllAreConforming (job_of_swap head.many.jobs s).deal (job_of_swap head.many.jobs s).conforming
       → (kept_report (many_state g head.many places head.finish events) s (job_of_swap head.many.jobs s)).findings ≡ []

@@ -21,11 +21,11 @@ pub record IsPartyDisk (d : Deal) (s : State) (v : ℕ) (h : Held) : Type 0 wher
       → (c : List ℕ) → Leaves h c → recorded c key.lock ≡ Some key
   pub just : (i : ℕ) → i < length d.leaders → (c : List ℕ) → Leaves h c → recorded c i ≡ signed_hashkey (state_notes s v).signed i
 
--- where party v conforms it has such a disk
+-- where party v conforms, it has a disk that has recorded its calls
 abbrev pub HasDisk : Cast → State → ℕ → Type 0
 HasDisk c s v = conforms c v ≡ true → (h : Held) × IsPartyDisk c.deal s v h
 
--- each conforming party that is below n has one
+-- each conforming party below n has a disk that has recorded its calls
 abbrev pub AreRecordedBelow : Cast → State → ℕ → Type 0
 AreRecordedBelow c s n = (v : ℕ) → v < n → HasDisk c s v
 

@@ -20,7 +20,7 @@ use Rattle.swap_world.specs.Value.{Continues, WorldState}
 use Rattle.swap_gen.specs.Made.{made}
 use Rattle.made_jobs.specs.Making.{copied, written_line}
 use Rattle.made_jobs.specs.Generating.{IsJobWorld}
-use Rattle.swap_commands.specs.Output.{AreGiven, Chance, command_cast, finished_state, plain_text, reported, told}
+use Rattle.swap_commands.specs.Output.{AreGiven, Chance, command_cast, finished_state, plain_text, reported, written_check}
 use Rattle.swap_commands.specs.Recorded.{AreRecorded}
 use Rattle.command_input.specs.Written.{Written}
 use Rattle.swap_commands.specs.Words.{JobCommand, Check, Run, Race, Make}
@@ -84,7 +84,7 @@ of_run has a transcript line text ls = do
   s ← folded_events (step (command_cast a job)) job 0 (start (job_cast job)) ls
   Ok (reported transcript job (finished_state job.finish (command_cast a job) s).book)
 
--- what a race writes that comes to the book b
+-- what a race writes whose book is b
 unfoldable pub of_race : (List ℕ → Bool) → Histories → Bool → ℕ → List ℕ → List (ℕ × List ℕ) → Result Written Reason
 of_race has b transcript line text ls = do
   job ← parse_header_job has purposes.Race line text
@@ -96,7 +96,7 @@ unfoldable pub of_check : (List ℕ → Bool) → ℕ → List ℕ → List (ℕ
 of_check has line text ls = do
   job ← parse_header_job has purposes.Check line text
   u ← folded_events skipped_event job 0 tt ls
-  Ok (told job)
+  Ok (written_check job)
 
 -- what a command that makes a job writes
 unfoldable pub of_make : (List ℕ → Bool) → ℕ → List ℕ → List (ℕ × List ℕ) → Result Written Reason

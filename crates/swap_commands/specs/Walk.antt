@@ -11,7 +11,7 @@ lines_told told count [] = Ok []
 lines_told told count (l ∷ ls) = told count l.0 l.1 >>= λ event. lines_told told (count + 1) ls >>= λ events. Ok (event ∷ events)
 
 -- A line told an event, which has led from old to new.
-pub record IsTaken {E R A : Type 0} (leads : A → E → A → Type 0) (told : Result E R) (old new : A) : Type 0 where
+pub record HasTakenEvent {E R A : Type 0} (leads : A → E → A → Type 0) (told : Result E R) (old new : A) : Type 0 where
   pub event : E
   pub is_told : told ≡ Ok event
   pub stepped : leads old event new

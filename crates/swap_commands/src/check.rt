@@ -7,7 +7,7 @@ ghost use Rattle.swap_offer.specs.Checks.{deal_need};
 ghost use Rattle.command_input.specs.Input.{Ends, Stops, desk, fresh};
 ghost use Rattle.command_input.specs.Written.{StatusWrites};
 ghost use Rattle.command_input.specs.Streams.{streams};
-ghost use Rattle.swap_commands.specs.Output.{check_text, told};
+ghost use Rattle.swap_commands.specs.Output.{check_text, written_check};
 ghost use Rattle.swap_commands.specs.Replay.{IsChecked};
 ghost use Rattle.swap_commands.specs.Says.{IsCommandRefusal, StatusSays};
 ghost use Rattle.swap_commands.specs.Words.{Check, OfJob};
@@ -79,7 +79,7 @@ fn examine<S: Source, A: Strategies>(
 fn write_checked_offer<K: Sink>(alloc: Global, sink: &mut K, job: &Job, need: u32) -> Status
     requires sized { IsWellSized job.now.deal }
     requires need { need ≡ deal_need job.now.deal }
-    ensures { StatusWrites (K.taken sink.old) (K.taken sink.new) (K.faults sink.old) (K.faults sink.new) (told job.now) result }
+    ensures { StatusWrites (K.taken sink.old) (K.taken sink.new) (K.faults sink.old) (K.faults sink.new) (written_check job.now) result }
 {
     let Ok(text) = check_text(alloc, &job.deal, need) else {
         return Status::NoMemory;

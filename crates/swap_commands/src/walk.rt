@@ -4,7 +4,7 @@
 ghost use Rattle.std.specs.Prelude.{◌≡◌, ℕ, List, Result, Err, IfErr, OnOk};
 ghost use Rattle.swap_base.specs.Fault.{Fails};
 ghost use Rattle.command_input.specs.Input.{Fits, Stops, ahead, desk};
-ghost use Rattle.swap_commands.specs.Walk.{IsTaken, IsWalked, lines_told};
+ghost use Rattle.swap_commands.specs.Walk.{HasTakenEvent, IsWalked, lines_told};
 
 use command_input::{Input, InputFault};
 use std::alloc::Global;
@@ -36,7 +36,7 @@ pub(crate) trait Walker<C: Copy, R> {
     ) -> Result<(), Fault<R>>
         requires can { can_take context self.old }
         ensures can { OnOk result (can_take context self.new) }
-        ensures taken { OnOk result (IsTaken (leads context) (told context count line text.now) self.old self.new) }
+        ensures taken { OnOk result (HasTakenEvent (leads context) (told context count line text.now) self.old self.new) }
         ensures refused { IfErr result (λ e. Fails e (told context count line text.now)) };
 }
 

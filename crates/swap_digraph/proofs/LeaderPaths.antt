@@ -1,4 +1,4 @@
--- Paths to the one leader, and the part of such a path up to a follower on it.
+-- Paths to the one leader, and the part of a path up to a follower on it.
 use Rattle.std.proofs.Common.{◌≡◌, ◌⊎◌, ℕ, Bool, true, false, not, List, [], ◌∷◌, refl, sym, ap, ◌∙◌, subst, inl, inr, eqb-true, eq-eqb, lt-ltb}
 use Rattle.swap_base.specs.Lists.{IsElement}
 use Rattle.swap_base.proofs.Lists.{and_parts, and_both}

@@ -19,7 +19,7 @@ pub(crate) fn leader_count(draws: &mut Draws, parties: u8) -> u8
     ensures count { result ≡ leader_count draws.old.seed parties }
     ensures draws { draws.new ≡ record draws.old { place = 1 } }
 {
-    1 + draws.below(3.min(parties - 1))
+    1 + draws.draw_bounded(3.min(parties - 1))
 }
 
 fn ring(alloc: Global, parties: u8) -> Result<Vec<ArcEnds>, NoMemory>
@@ -67,8 +67,8 @@ fn drawn_ends(draws: &mut Draws, parties: u8) -> ArcEnds
     ensures to { result.to ≡ word draws.old.seed (next draws.old.place) % parties }
     ensures draws { draws.new ≡ record draws.old { place = next (next draws.old.place) } }
 {
-    let from = draws.below(parties);
-    let to = draws.below(parties);
+    let from = draws.draw_bounded(parties);
+    let to = draws.draw_bounded(parties);
     ArcEnds { from, to }
 }
 

@@ -53,7 +53,7 @@ impl Draws {
     }
 
     /// The next word as a number below n.
-    pub(crate) fn below(&mut self, n: u8) -> u8
+    pub(crate) fn draw_bounded(&mut self, n: u8) -> u8
         requires { 0 < n }
         ensures word { result ≡ word self.old.seed self.old.place % n }
         ensures place { self.new ≡ record self.old { place = next self.old.place } }

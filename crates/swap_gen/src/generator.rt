@@ -77,7 +77,7 @@ fn pick(draws: &mut Draws, arcs: &[ArcId]) -> ArcId
     ensures arc { result ≡ picked arcs.now (word draws.old.seed draws.old.place) }
     ensures draws { draws.new ≡ record draws.old { place = next draws.old.place } }
 {
-    arcs[draws.below(arcs.len() as u8) as usize]
+    arcs[draws.draw_bounded(arcs.len() as u8) as usize]
 }
 
 impl Generator {
@@ -91,7 +91,8 @@ impl Generator {
         Ok(generator)
     }
 
-    /// The same, with the wallets of the job's parties, which hold the keys that its deal states.
+    /// The job of a number before its first event, with the wallets of its parties, which hold the
+    /// keys that its deal states.
     pub fn with_wallets(
         alloc: Global,
         seed: u32,
@@ -144,13 +145,13 @@ impl Generator {
         let kind = self.draws.draw() % 8;
         let graph = &self.job.deal.graph;
         if kind == 0 {
-            Event::Tick(self.draws.below(graph.arcs().len() as u8), 1)
+            Event::Tick(self.draws.draw_bounded(graph.arcs().len() as u8), 1)
         } else if kind <= 4 {
-            let p = self.draws.below(graph.n());
+            let p = self.draws.draw_bounded(graph.n());
             let arcs = self.touching.as_slice()[p as usize].as_slice();
             Event::Look(p, pick(&mut self.draws, arcs))
         } else {
-            Event::Act(self.draws.below(graph.n()))
+            Event::Act(self.draws.draw_bounded(graph.n()))
         }
     }
 }

@@ -46,7 +46,7 @@ fn wallet_public_key(wallet: &Wallet, locks: u8, lock: LockId) -> Digest
     }
 }
 
-/// The public keys of such a wallet, one for each lock.
+/// The public keys of a wallet with which nothing is signed, one for each lock.
 fn wallet_public_keys(alloc: Global, wallet: &Wallet, locks: u8) -> Result<Listed<Digest>, NoMemory>
     requires { wallet.now ≡ empty_wallet Hashkeys wallet.now.seed wallet.now.party locks }
     ensures { IfOk result (λ l. l ≡ map (derive_public_key wallet.now.seed wallet.now.party) (range_with_len 0 locks)) }

@@ -74,7 +74,7 @@ rose_before a b c le r = omega (arith, le, r)
 pub rose_after : (a b c : ℕ) → Rose a b → b ≤ c → Rose a c
 rose_after a b c r le = omega (arith, r, le)
 
--- A line for each of a list, of which those before place i were handed on.
+-- A line for each of a list. The lines before place i were handed on.
 
 module _ {A : Type 0} (f : ℕ → A → List ℕ) (xs : List A) (total : List ℕ) (a : Option (List ℕ)) (w : List ℕ) where
   -- what was handed on so far, and with the lines of the rest it is the whole

@@ -39,7 +39,7 @@ abbrev pub TookSome : Option (List ℕ) → Option (List ℕ) → Reading → Re
 TookSome left left' old new = (bytes : List ℕ) × TookFromSource left left' old new bytes
 
 -- nothing is kept, and nothing is left
-pub record IsReadingOver (left : Option (List ℕ)) (now : Reading) : Type 0 where
+pub record IsReadingFinished (left : Option (List ℕ)) (now : Reading) : Type 0 where
   pub kept : now.kept ≡ []
   pub none_left : IsAtEnd left
 
@@ -52,8 +52,8 @@ line_end_bytes End = []
 -- a line that a line feed ended, bytes at the end that none ended, or no further byte
 abbrev pub HasLineEnd : LineEnd → List ℕ → Option (List ℕ) → Reading → Type 0
 HasLineEnd Ended line left now = Unit {0}
-HasLineEnd Rest line left now = (0 < length line) × IsReadingOver left now
-HasLineEnd End line left now = (line ≡ []) × IsReadingOver left now
+HasLineEnd Rest line left now = (0 < length line) × IsReadingFinished left now
+HasLineEnd End line left now = (line ≡ []) × IsReadingFinished left now
 
 -- What was kept, with the bytes that were taken, is the line with its line feed, if any, and what
 -- is kept now.
@@ -77,4 +77,4 @@ TakesLine false old new line line' = (new.kept ≡ []) × IsTrue (lacks_feed old
 -- some bytes were taken and are kept, or nothing is left
 abbrev pub IsFilled : Bool → Option (List ℕ) → Option (List ℕ) → Reading → Reading → Type 0
 IsFilled true left left' old new = TookFromSource left left' old new new.kept × (0 < length new.kept)
-IsFilled false left left' old new = TookFromSource left left' old new [] × IsReadingOver left' new
+IsFilled false left left' old new = TookFromSource left left' old new [] × IsReadingFinished left' new

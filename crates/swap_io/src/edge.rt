@@ -62,8 +62,8 @@ impl<R: Read> Source for ReaderSource<R> {
     }
 }
 
-/// A sink over a writer. Each of its errors, and a nonempty piece of which it takes nothing, is
-/// counted and is `Failed`. It never flushes.
+/// A sink over a writer. Each error of the writer is counted and is `Failed`, and so is a nonempty
+/// piece from which the writer takes nothing. The sink never flushes.
 #[derive(Drop)]
 pub struct WriterSink<W: Write> {
     inner: W,

@@ -71,7 +71,7 @@ impl Lines {
     }
 
     /// Whether more bytes were taken than may be.
-    fn is_past(&self) -> bool
+    fn exceeds_limit(&self) -> bool
         ensures past { IsTrue result ↔ (self.now.limit < self.now.taken) }
         ensures few { length self.now.kept ≤ 8192 }
         ensures most { self.now.taken ≤ self.now.limit + 1 }
@@ -206,7 +206,7 @@ impl Lines {
         ensures failed { IsErrOf result LineFault.ReadFault → Rose (S.faults source.old) (S.faults source.new) }
         ensures calm { ¬ IsErrOf result LineFault.ReadFault → S.faults source.new ≡ S.faults source.old }
     {
-        if self.is_past() {
+        if self.exceeds_limit() {
             return Err(LineFault::TooLong);
         }
         line.clear();
@@ -235,7 +235,7 @@ impl Lines {
     {
         self.buffer.clear();
         self.at = 0;
-        if self.is_past() {
+        if self.exceeds_limit() {
             return Err(DrainFault::TooLong);
         }
         let mut chunk = [0u8; ROOM];

@@ -86,7 +86,7 @@ put_range d seeds i (Some key) v l k r =
     λ x q. subst (λ y. (nat_lt y.lock (length d.leaders) ≡ true)
     × (list_all (λ v. nat_lt v d.graph.n) y.path ≡ true)) (same_Some _ x q) (onto_range d.mode d v (make_seed seeds v) key h.0 h.1 k)
 
--- parties in a row, each of which puts itself before what is made so far
+-- parties in a row put themselves, one after another, before what is made so far
 all_put : (d : Deal) (seeds : Seeds) (i : ℕ) (made : Option Hashkey) (vs : List ℕ) → i < length d.leaders → list_all (λ v. nat_lt v d.graph.n) vs ≡ true
     → InRange d made → HasPathRoom d (length vs) made
     → InRange d (fold (λ o v. Some (prepend_party d seeds i o v)) made vs) × HasPathRoom d 0 (fold (λ o v. Some (prepend_party d seeds i o v)) made vs)

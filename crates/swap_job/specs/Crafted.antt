@@ -1,4 +1,5 @@
--- Hashkeys that parties make together, each with a key made anew from its seed.
+-- Hashkeys that parties make together. Each party signs with a key that is made from its seed at
+-- every signature.
 use Rattle.std.specs.Prelude.{ℕ, ◌+◌, nat_le, List, [], length, fold, reverse, slice_index_or, unwrap_or, Option, Some, None, if◌then◌else◌}
 use Rattle.swap_digraph.specs.declared.deal.Deal.{Deal}
 use Rattle.swap_digraph.specs.Deal.{path_limit}

@@ -66,7 +66,7 @@ build_call d seeds key mv = plain_call d mv
 abbrev pub call_of_move : Deal → Seeds → Histories → Move → Option Call
 call_of_move d seeds k mv = build_call d seeds (key_opened k (opening_named mv)) mv
 
--- the same with its arc
+-- the call of a move with its arc, over what is known
 abbrev pub resolved : Deal → Seeds → Histories → Move → Option (ℕ × Call)
 resolved d seeds k mv = option_map (λ c. (move_arc mv, c)) (call_of_move d seeds k mv)
 

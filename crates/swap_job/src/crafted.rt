@@ -1,4 +1,5 @@
-//! Hashkeys that parties make together, each with a key made anew from its seed.
+//! Hashkeys that parties make together. Each party signs with a key that is made from its seed at
+//! every signature.
 
 ghost use Rattle.std.specs.Prelude.{◌≡◌, ◌<◌, IfOk, Some, None, true, is_some, length, slice_index_or};
 ghost use Rattle.std.specs.Option.{ForSome};

@@ -21,8 +21,9 @@ pub enum Move {
         amount: Option<u64>,
         locks: Option<LockList>,
     },
-    /// An unlock with a hashkey that is made anew by the parties of `via`, the last one first, from
-    /// their seeds; where `onto` is given, onto the hashkey that opened the lock there.
+    /// An unlock with a hashkey that the parties of `via` make from their seeds, the last one
+    /// first. Where `onto` is given, they put themselves before the hashkey that opened the lock
+    /// there.
     Craft {
         arc: ArcId,
         lock: LockId,

@@ -52,7 +52,7 @@ pub fn opened_key(list: &EntryList, lock: LockId) -> Option<&Hashkey>
     find_key(items, lock)
 }
 
-/// The same in a ledger's history.
+/// The hashkey of the accepted unlock for the lock in a ledger's history.
 pub fn find_opened_key(history: &LedgerHistory, lock: LockId) -> Option<&Hashkey>
     ensures { option_copied result ≡ opened_key history.now.list lock }
 {

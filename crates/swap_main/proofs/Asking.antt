@@ -54,7 +54,7 @@ no_race_ordered orders.Audit ticks transcript e = cc e
 no_race_ordered orders.Clear ticks transcript e = cc e
 no_race_ordered orders.Many ticks transcript e = cc e
 
--- and no other is
+-- a race isn't asked for by any other task
 pub order_is_no_race : (words : List (List ℕ)) (order : Order) → task_text words ≡ Some (Input order) → ¬ AsksRace words
 order_is_no_race words order e race =
     let same : ordered order ≡ OfJob (OfRace race.ticks race.transcript) = cc (sym (command_is words (Input order) (ordered order) e refl) ∙ race.asks) in

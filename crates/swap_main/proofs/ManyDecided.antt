@@ -133,7 +133,7 @@ module _ (rule : Question → Option (ℕ × Call)) (swept : ℕ → Bool) (c : 
   acted d s v false (Strategy name) =
       let o = answered_call d.deal v (d.answers (length s.asked)) in landed swept d (after_question s v name) v o (sender_call v o)
 
-  -- the same as it is taken apart
+  -- what an act of v does, as it is taken apart
   abbrev called_by : Cast → State → ℕ → Bool → Role → Option Called
   called_by d s v n role = cond n (by_due v (next_action d s v)) (role_call d s v role)
 
@@ -181,7 +181,7 @@ module _ (rule : Question → Option (ℕ × Call)) (swept : ℕ → Bool) (c : 
   step_one (events.Crash v k image) s =
       quiet rule g h s (apply_step swept cast_g s (events.Crash v k image)) (apply_step swept cast_h s (events.Crash v k image)) refl refl
 
--- The same of all that is kept.
+-- Where a rule gives both answers, all that is kept of several swaps is the same with both.
 
 module _ (rule : StrategyRule) (m : Setup) (g h : ℕ → Answers) where
   -- what runs, where the strategies of swap s answer x s

@@ -22,8 +22,8 @@ SameWithoutStrategies =
     → parse_job has purposes.Run input ≡ Ok (job, events) → list_any is_strategy job.roles ≡ false
     → output_given_chance has a (OfJob (Run transcript)) input ≡ output_given_chance has b (OfJob (Run transcript)) input
 
--- and where a rule gives each answer, the rule decides what is written of all but a race: of two
--- outputs for an input that are promised so, both are one
+-- where a rule gives each answer, the rule decides what is written of all but a race: two outputs
+-- for an input that are promised so are the same
 abbrev pub RulesDecide : Type 0
 RulesDecide =
     (rule : List ℕ → Deal → ℕ → ℕ → Histories → Option (ℕ × Call)) (has : List ℕ → Bool) (a b : Chance) (command : Command) (input : List ℕ)

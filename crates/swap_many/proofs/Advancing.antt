@@ -1,4 +1,4 @@
--- Rounds of which only the ticks are taken, and one more.
+-- Rounds that only take their ticks, and a round after them.
 use Rattle.std.proofs.Common.{◌≡◌, ℕ, suc, ◌+◌, ◌-◌, ◌≤◌, sym, ap, ◌∙◌, arith}
 use Rattle.swap_run.specs.Asked.{Answers}
 use Rattle.swap_run.specs.Fair.{repeat}
@@ -41,7 +41,7 @@ module _ (gives : MayGive) (old mid new : ManyState) (n : ℕ) (ready : AreReady
       stopped_as gives (λ m z. kept_round m (repeat n (kept_ticks m) z)) (λ m z. repeat (n + 1) (kept_round_or_rest m) z) old new are_rounds
       (stopped_after gives (λ m z. repeat n (kept_ticks m) z) kept_round old mid new ready passes_lead a k)
 
--- So many rounds are left of all, of which n more are taken.
+-- Of all rounds some are left, and n of these are taken.
 module _ (gives : MayGive) (old mid new : ManyState) (all left n : ℕ) (few : left ≤ all) (less : n ≤ left)
     (so_far : HasManyGone gives (λ m z. repeat (all - left) (kept_round_or_rest m) z) old mid) where
   in_a_row : (f : Kept → Kept) (z : Kept) → repeat n f (repeat (all - left) f z) ≡ repeat (all - (left - n)) f z

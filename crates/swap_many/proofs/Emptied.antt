@@ -160,7 +160,8 @@ module _ (w : ManyState) (s a : ℕ) (fair : Bool) (whole : AreWhole w) (on : w.
             ∙ put_each (λ t xs. length xs ≡ length (swept_slots w t)) (swept_slots w) s f
             (ap (λ (xs : List Bool). length xs) flag ∙ length-set (swept_slots w s) a true) (λ t. refl) t
 
-  -- The same by what the code holds: where the arc stands, its chain before and the two balances.
+  -- The two balances fit by what the code holds: where the arc stands, its chain before and the two
+  -- balances.
   module _ (p : Place) (y : ChainState) (b : Accounts) (at : p ≡ place (world_setup w) s a) (here : y ≡ nth_chain w p.chain)
       (is : b ≡ accounts (nth_world w s).deal a (history (nth_world w s).state.book a)) where
     chain_is : y ≡ nth_chain w (arc_chain (world_setup w) s a)

@@ -20,7 +20,7 @@ use Rattle.swap_many.specs.declared.many_event.ManyEvent.{ManyEvent}
 use Rattle.swap_many.specs.declared.many_event.ManyEvent.TheVariants.{Tick, In, Pay, Sweep}
 use Rattle.swap_many.specs.declared.many_reply.ManyReply.{ManyReply}
 use Rattle.swap_many.specs.declared.many_reply.ManyReply.TheVariants.{Plain, Swept}
-use Rattle.swap_run.specs.Called.{Called, called, before_call, is_due_act, noted_state, planned_state, told}
+use Rattle.swap_run.specs.Called.{Called, called, before_call, is_due_act, noted_state, planned_state, called_state}
 use Rattle.swap_many.specs.Chains.{Setup, arc_chain, place, put, Ticked, Paid, Emptied, ChainEntry, chain_height, chain_ticks, has_no_tick}
 use Rattle.swap_many.specs.Chains.{projection, Chains, book, Units, paid, returned, free, is_accepted_deed, is_swept, reply_to_call}
 use Rattle.swap_run.specs.Called.{is_barred, landed_event}
@@ -46,7 +46,7 @@ set_book b z = record z { book = b }
 with_book : (z : State) (b : Histories) → z.book ≡ b → z ≡ record z { book = b }
 with_book z b e = subst (λ b. z ≡ record z { book = b }) e refl
 
-told_book : (c : Cast) (s : State) (e : Event) (x : Called) (h : List Entry) → IsSplit c s e → (told c s e x h).book ≡ slice_set s.book x.arc h
+told_book : (c : Cast) (s : State) (e : Event) (x : Called) (h : List Entry) → IsSplit c s e → (called_state c s e x h).book ≡ slice_set s.book x.arc h
 told_book c s e x h split = go (is_due_act c e) ∙ ap (λ b. slice_set b x.arc h) split.calm
   where
     go : (b : Bool) → (cond b (noted_state (before_call c s e) x h) (planned_state c (before_call c s e) x h)).book ≡ slice_set (before_call c s e).book x.arc h
@@ -172,16 +172,16 @@ passed_is : (m : Setup) (r : Run) (z : Kept) (s : ℕ) (x : Called) → Follows 
 passed_is m r z s x f ls la =
     ap₂ (λ b h. is_barred b h x.call) (f.swept s x.arc) (ap (λ t. history t.book x.arc) (f.swaps s ls) ∙ shown_at m r.chains s x.arc la)
 
--- what the swap comes to is what is heard of the chain's new entry
+-- the swap's state is what is heard of the chain's new entry
 heard_is : (m : Setup) (r : Run) (z : Kept) (s : ℕ) (e : Event) (x : Called) → Follows m r z → s < m.swaps → x.arc < length (m.cast s).deal.graph.arcs
     → IsSplit (m.cast s) (swap_state m r s) e → called (m.cast s) (swap_state m r s) e ≡ Some x
     → in_swap m z s e (Some x) ≡ heard m r (posted r.chains (Some (post_call m r s x))) s e (Some x)
 heard_is m r z s e x f ls la split q =
-    ap (λ t. cond (is_barred_call z s x) (told (m.cast s) t e x (history t.book x.arc)) (step (m.cast s) t e)) (f.swaps s ls)
-    ∙ (ap (λ b. cond b (told (m.cast s) (swap_state m r s) e x (history (swap_state m r s).book x.arc)) (step (m.cast s) (swap_state m r s) e))
+    ap (λ t. cond (is_barred_call z s x) (called_state (m.cast s) t e x (history t.book x.arc)) (step (m.cast s) t e)) (f.swaps s ls)
+    ∙ (ap (λ b. cond b (called_state (m.cast s) (swap_state m r s) e x (history (swap_state m r s).book x.arc)) (step (m.cast s) (swap_state m r s) e))
     (passed_is m r z s x f ls la)
     ∙ (go (is_barred (is_swept s x.arc here) (projection s x.arc here) x.call)
-    ∙ ap (told (m.cast s) (swap_state m r s) e x)
+    ∙ ap (called_state (m.cast s) (swap_state m r s) e x)
     (sym (call_shown m s x.arc x.sender x.call here) ∙ sym (ap (projection s x.arc) (put_same r.chains (arc_chain m s x.arc) new)))))
   where
     here : List ChainEntry
@@ -190,13 +190,13 @@ heard_is m r z s e x f ls la split q =
     new : List ChainEntry
     new = entered here (parse_call s x.arc x.sender x.call here (reply_to_call m here s x.arc x.sender x.call))
 
-    go : (b : Bool) → cond b (told (m.cast s) (swap_state m r s) e x (history (swap_state m r s).book x.arc)) (step (m.cast s) (swap_state m r s) e)
-        ≡ told (m.cast s) (swap_state m r s) e x
+    go : (b : Bool) → cond b (called_state (m.cast s) (swap_state m r s) e x (history (swap_state m r s).book x.arc)) (step (m.cast s) (swap_state m r s) e)
+        ≡ called_state (m.cast s) (swap_state m r s) e x
         (cond b (projection s x.arc here) (after_call (m.cast s).deal x.arc x.sender x.call (projection s x.arc here)))
-    go true = ap (told (m.cast s) (swap_state m r s) e x) (shown_at m r.chains s x.arc la)
+    go true = ap (called_state (m.cast s) (swap_state m r s) e x) (shown_at m r.chains s x.arc la)
     go false =
         split.calls x q
-        ∙ ap (λ h. told (m.cast s) (swap_state m r s) e x (after_call (m.cast s).deal x.arc x.sender x.call h)) (shown_at m r.chains s x.arc la)
+        ∙ ap (λ h. called_state (m.cast s) (swap_state m r s) e x (after_call (m.cast s).deal x.arc x.sender x.call h)) (shown_at m r.chains s x.arc la)
 
 in_follows : (fair : Bool) (m : Setup) (r : Run) (z : Kept) (s : ℕ) (e : Event) → IsReadySetup m → CanHappen m s e → Follows m r z → AreGood m z
     → Follows m (done fair m r (In s e)) (kept_done fair m z (In s e))

@@ -69,7 +69,7 @@ module _ (gives : MayGive) where
     party = subst (λ (d : Deal). p < d.graph.n) (sym (deal_gone f old new s k)) l.party;
   }
 
-  -- Such that stop.
+  -- Steps that stop.
 
   pub stopped_as : (f h : Setup → Kept → Kept) (old new : ManyState)
       → ((g : ℕ → Answers) → f (made_setup old g) (many_kept old) ≡ h (made_setup old g) (many_kept old)) → IsManyStopped gives f old new

@@ -117,7 +117,7 @@ module _ (gives : MayGive) (w : ManyState) (s : ℕ) (e : Event) (x : WorldState
         free = λ i. refl;
       }
 
-  -- and all is whole, whether it was or not
+  -- all is whole, whether memory ran out or not
   pub still_whole : (b : Bool) → w.stopped ≡ false → (b ≡ false → x.stopped ≡ false) → AreSame gives w (with_world w s x b low)
       → (b ≡ false → HasManyGone gives (λ m z. kept_done false m z (In s e)) w (with_world w s x b low)) → AreWhole w → CanHappen (world_setup w) s e
       → IsKept (world_cast x) x.state.book → AreWhole (with_world w s x b low)

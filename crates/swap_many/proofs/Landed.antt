@@ -127,7 +127,7 @@ other_book m h t s a p c y n = same_book m h g t (λ b l. each b (same_or_not (a
         ∙ call_hidden t b s a p c (h (arc_chain m s a)) y (inl n))
     each b (inr apart) = sym (ap (projection t b) (put_other h (arc_chain m s a) new (arc_chain m t b) apart))
 
--- and the swap's own has what the slot shows
+-- the swap's own book has what the slot shows
 pub own_book : (m : Setup) (h : Chains) (s a p : ℕ) (c : Call) (y : ManyReply) → a < length (m.cast s).deal.graph.arcs
     → slice_set (book m h s) a (projection s a (entered (h (arc_chain m s a)) (parse_call s a p c (h (arc_chain m s a)) y)))
     ≡ book m (put h (arc_chain m s a) (entered (h (arc_chain m s a)) (parse_call s a p c (h (arc_chain m s a)) y))) s

@@ -25,7 +25,7 @@ use Rattle.swap_many.specs.declared.many_reply.ManyReply.TheVariants.{Plain}
 use Rattle.swap_run.specs.Called.{Called, called}
 use Rattle.swap_many.specs.Chains.{Setup, place, arc_chain, put, Emptied, Paid, Ticked, ChainEntry, chain_height, chain_ticks, has_no_tick, projection, Chains}
 use Rattle.swap_many.specs.Chains.{sum_over_arcs, slot_funding, set_aside, opening_units, Units, plus, paid, returned, is_accepted_deed, first_free, free, is_swept}
-use Rattle.swap_many.specs.Chains.{reply_to_call, reply_to_payment, reply_to_sweep, entered, in_accounts, unswept, in_slot, placed}
+use Rattle.swap_many.specs.Chains.{reply_to_call, reply_to_payment, reply_to_sweep, entered, in_accounts, unswept, in_slot, placed_units}
 use Rattle.swap_many.specs.Many.{Run, swap_state, post_call, posted, done, many_step, many_start, many_run}
 use Rattle.swap_many.specs.Kept.{Kept, kept_done, kept_step, kept_start, kept_run}
 use Rattle.swap_many.specs.Laws.{IsReadySetup, CanPay, CanSweep, CanCome, Follows, AreGood, UnitsArePlaced, SweptAcceptNothing}
@@ -355,7 +355,7 @@ keeps_run m events ready all = keeps_from m events (many_start m) (kept_start m)
 
 -- where the units count, they are placed
 pub counted_is_placed : (m : Setup) (r : Run) (z : Kept) (i : ℕ) → i < length m.chains → Keeps m r z
-    → placed m i (r.chains i) ≡ in_accounts m i (opening_units m i)
+    → placed_units m i (r.chains i) ≡ in_accounts m i (opening_units m i)
 counted_is_placed m r z i l k =
     ap (λ n. in_accounts m i (free m i (r.chains i)) + n)
     (total_same m (in_slot m i (r.chains i)) (worth m i (r.chains i)) (λ s a ls la. one s a ls la (same_or_not (arc_chain m s a) i))) ∙ k.sound.count i l

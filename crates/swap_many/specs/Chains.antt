@@ -244,5 +244,5 @@ in_slot m i h s a =
     if arc_chain m s a == i then unswept (is_swept s a h) (accounts (m.cast s).deal a (projection s a h)) + held (projection s a h) else 0
 
 -- the free accounts, the slots' balances that aren't swept and the held amounts of chain i
-abbrev pub placed : Setup → ℕ → List ChainEntry → ℕ
-placed m i h = in_accounts m i (free m i h) + sum_over_arcs m (in_slot m i h)
+abbrev pub placed_units : Setup → ℕ → List ChainEntry → ℕ
+placed_units m i h = in_accounts m i (free m i h) + sum_over_arcs m (in_slot m i h)

@@ -19,7 +19,7 @@ use Rattle.swap_run.specs.Called.{swept_turns}
 use Rattle.swap_run.specs.CalledLaws.{is_no_tick}
 use Rattle.swap_many.specs.Chains.{Setup, place, arc_chain, put, ChainEntry, projection, has_no_tick, chain_height, chain_ticks, book, free, opening_units}
 use Rattle.swap_many.specs.Chains.{set_aside, is_swept, reply_to_call}
-use Rattle.swap_many.specs.Chains.{in_accounts, placed}
+use Rattle.swap_many.specs.Chains.{in_accounts, placed_units}
 use Rattle.swap_many.specs.Many.{Run, swap_state, done, many_reply, many_start, many_run, many_finish, swap_turns}
 use Rattle.swap_many.specs.Kept.{Kept, kept_done, kept_reply, kept_start, kept_run, kept_finish}
 
@@ -93,7 +93,8 @@ RunsFollow =
     (m : Setup) (events : List ManyEvent) → IsReadySetup m → All (CanCome m) events
     → Follows m (many_run m events) (kept_run m events) × AreGood m (kept_run m events)
 
--- and each swap's book by the chains' histories is legal, and its conforming parties are conducted
+-- after every list of events each swap's book by the chains' histories is legal, and its conforming
+-- parties are conducted
 abbrev pub BooksAreKept : Type 0
 BooksAreKept =
     (m : Setup) (events : List ManyEvent) (s : ℕ) → IsReadySetup m → All (CanCome m) events → s < m.swaps
@@ -113,7 +114,7 @@ SlotsShowTheClock =
 abbrev pub UnitsArePlaced : Type 0
 UnitsArePlaced =
     (m : Setup) (events : List ManyEvent) (i : ℕ) → IsReadySetup m → All (CanCome m) events → i < length m.chains
-    → placed m i ((many_run m events).chains i) ≡ in_accounts m i (opening_units m i)
+    → placed_units m i ((many_run m events).chains i) ≡ in_accounts m i (opening_units m i)
 
 -- on a swept slot a call that its ledger answers is refused
 abbrev pub SweptAcceptNothing : Type 0
@@ -130,7 +131,7 @@ pub record IsManyFinished (m : Setup) (r : Run) (z : Kept) : Type 0 where
   pub follows : Follows m r z
   pub ended : (s : ℕ) → s < m.swaps → IsEnded (m.cast s).deal (book m r.chains s)
   pub kept : (s : ℕ) → s < m.swaps → IsKept (m.cast s) (book m r.chains s)
-  pub units : (i : ℕ) → i < length m.chains → placed m i (r.chains i) ≡ in_accounts m i (opening_units m i)
+  pub units : (i : ℕ) → i < length m.chains → placed_units m i (r.chains i) ≡ in_accounts m i (opening_units m i)
 
 abbrev pub ManyFinishesEnd : Type 0
 ManyFinishesEnd =
@@ -170,8 +171,8 @@ EverySwapIsSafe =
     → outcome (m.cast s).deal (book m (many_finish m (many_run m events)).chains s) v ≢ Underwater)
     × HasRefunds (m.cast s).deal (book m (many_finish m (many_run m events)).chains s) v
 
--- and where all of a swap's parties conform and nothing is found of it, every arc is claimed in
--- time and every outcome is the whole deal
+-- after every list of events and a fair finish: where all of a swap's parties conform and nothing
+-- is found of it, every arc is claimed in time and every outcome is the whole deal
 abbrev pub EverySwapIsTransferred : Type 0
 EverySwapIsTransferred =
     (m : Setup) (events : List ManyEvent) (s : ℕ) (ready : IsReadySetup m) → All (CanCome m) events → (low : s < m.swaps)
@@ -179,8 +180,8 @@ EverySwapIsTransferred =
     → findings (m.cast s).deal (conforms (m.cast s)) (book m (many_finish m (many_run m events)).chains s) ≡ []
     → IsTransferred (m.cast s).deal (book m (many_finish m (many_run m events)).chains s) (ready.casts s low).accepted
 
--- and where all of a swap's parties conform, a fair finish with no event before it finds nothing of
--- the swap, and every outcome is the whole deal
+-- where all of a swap's parties conform, a fair finish with no event before it finds nothing of the
+-- swap, and every outcome is the whole deal
 abbrev pub EveryFairSwapIsDealt : Type 0
 EveryFairSwapIsDealt =
     (m : Setup) (s : ℕ) → IsReadySetup m → s < m.swaps → ((v : ℕ) → v < (m.cast s).deal.graph.n → conforms (m.cast s) v ≡ true)

@@ -9,7 +9,7 @@ use Rattle.swap_run.specs.Fair.{repeat, adjacent_arcs, most_acts, the_horizon}
 use Rattle.swap_many.specs.declared.many_event.ManyEvent.{ManyEvent}
 use Rattle.swap_many.specs.declared.many_event.ManyEvent.TheVariants.{Tick, In, Pay, Sweep}
 use Rattle.swap_many.specs.declared.many_reply.ManyReply.{ManyReply}
-use Rattle.swap_run.specs.Called.{Called as Call, called, before_call, told}
+use Rattle.swap_run.specs.Called.{Called as Call, called, before_call, called_state}
 use Rattle.swap_many.specs.Chains.{Setup, slots, arc_chain, put, Ticked, Called, Paid, Emptied, ChainEntry, chain_height, chain_ticks, projection}
 use Rattle.swap_many.specs.Chains.{Chains, book, free, is_swept, reply_to_call, chain_tick_reply, reply_to_payment, reply_to_sweep, entered}
 
@@ -82,7 +82,7 @@ posted h (Some x) = put h x.chain (entered (h x.chain) x.entry)
 -- are then h
 abbrev pub heard : Setup → Run → Chains → ℕ → Event → Option Call → State
 heard m r h s e None = before_call (m.cast s) (swap_state m r s) e
-heard m r h s e (Some x) = told (m.cast s) (swap_state m r s) e x (projection s x.arc (h (arc_chain m s x.arc)))
+heard m r h s e (Some x) = called_state (m.cast s) (swap_state m r s) e x (projection s x.arc (h (arc_chain m s x.arc)))
 
 abbrev pub next_minds : Setup → Run → Chains → ManyEvent → ℕ → State
 next_minds m r h (In s e) = put r.minds s (heard m r h s e (called (m.cast s) (swap_state m r s) e))
@@ -119,7 +119,7 @@ module _ {S : Type 0} (m : Setup) (step : S → ManyEvent → S) (sweep : S → 
   abbrev pub swap_looks : ℕ → ℕ → S → S
   swap_looks s v z = fold (λ z a. step z (In s (Look v a))) z (adjacent_arcs (m.cast s).deal v)
 
-  -- and then acts: until nothing is due where it conforms, else once
+  -- party v of swap s looks and then acts: until nothing is due where it conforms, else once
   abbrev pub swap_turn : ℕ → S → ℕ → S
   swap_turn s z v =
       if conforms (m.cast s) v then repeat (most_acts (m.cast s).deal) (λ z. step z (In s (Act v))) (swap_looks s v z)

@@ -78,5 +78,5 @@ opened_or None x = Ok x
 opened_or (Some lack) x = Err lack
 
 -- the swaps before any event, or the first account that lacks units
-abbrev pub opened : List (List ℕ) → List WorldState → List (List Place) → Result ManyState Overdrawn
-opened chains ws places = opened_or (overdrawn (setup_of_worlds ws places chains)) (new_many chains ws places)
+abbrev pub opened_swaps : List (List ℕ) → List WorldState → List (List Place) → Result ManyState Overdrawn
+opened_swaps chains ws places = opened_or (overdrawn (setup_of_worlds ws places chains)) (new_many chains ws places)

@@ -19,6 +19,6 @@ run_stage m r Finished = many_finish m r
 abbrev pub staged_run : Setup → List Stage → Run
 staged_run m stages = fold (run_stage m) (many_start m) stages
 
--- the stages of stretches of events, each of which a fair finish ended, and of events after them
+-- the stages of stretches of events, each one ended by a fair finish, and of events after them
 abbrev pub stretch_stages : List (List ManyEvent) → List ManyEvent → List Stage
 stretch_stages stretches events = flat_map (λ es. map Came es ++ Finished ∷ []) stretches ++ map Came events

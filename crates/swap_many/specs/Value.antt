@@ -9,7 +9,7 @@ use Rattle.swap_world.specs.Gone.{MayGive, HasAsked}
 use Rattle.swap_world.specs.Actors.{AreHeld}
 use Rattle.swap_many.specs.declared.place.Place.{Place}
 use Rattle.swap_many.specs.Accounts.{ChainState, account_units}
-use Rattle.swap_many.specs.Chains.{Setup, in_accounts, opening_units, placed}
+use Rattle.swap_many.specs.Chains.{Setup, in_accounts, opening_units, placed_units}
 use Rattle.swap_many.specs.Many.{Run}
 use Rattle.swap_many.specs.Kept.{Kept}
 use Rattle.swap_many.specs.Laws.{IsReadySetup}
@@ -96,7 +96,7 @@ world_run w g = staged_run (made_setup w g) w.stages
 
 -- on each chain all units are in one place
 abbrev pub AreUnitsPlaced : Setup → Run → Type 0
-AreUnitsPlaced m r = (i : ℕ) → i < length m.chains → placed m i (r.chains i) ≡ in_accounts m i (opening_units m i)
+AreUnitsPlaced m r = (i : ℕ) → i < length m.chains → placed_units m i (r.chains i) ≡ in_accounts m i (opening_units m i)
 
 -- the answers of each swap's strategies begin with those so far
 abbrev pub ContinueAll : ManyState → (ℕ → Answers) → Type 0
@@ -121,7 +121,7 @@ pub record IsSwapParty (w : ManyState) (s p : ℕ) : Type 0 where
   pub swap : s < length w.worlds
   pub party : p < (nth_world w s).deal.graph.n
 
--- The same swaps, places and openings; each swap's strategies were asked some more.
+-- The swaps, places and openings are the same, and each swap's strategies were asked some more.
 pub record AreSame (gives : MayGive) (old new : ManyState) : Type 0 where
   pub swaps : length new.worlds ≡ length old.worlds
   pub casts : (s : ℕ) → world_cast (nth_world new s) ≡ world_cast (nth_world old s)

@@ -9,7 +9,7 @@ ghost use Rattle.swap_many.specs.Fair.{kept_acts, kept_looks, kept_round, kept_r
 ghost use Rattle.swap_many.specs.Fair.{have_ended, kept_swap_sweeps};
 ghost use Rattle.swap_many.specs.Kept.{kept_finish};
 ghost use Rattle.swap_many.specs.Many.{last_horizon};
-ghost use Rattle.swap_many.specs.TouchingArcs.{AreNear, swap_adjacent_arcs};
+ghost use Rattle.swap_many.specs.TouchingArcs.{AreAdjacentArcs, swap_adjacent_arcs};
 ghost use Rattle.swap_many.specs.Value.{HasManyGone, IsManyStopped, CanContinue, IsSwapParty, many_kept, world_setup, nth_world};
 
 use crate::worlds::Worlds;
@@ -108,7 +108,7 @@ fn all_turns<A: Strategies>(
     strategies: &A,
     near: &[Listed<Listed<ArcId>>],
 ) -> Result<(), NoMemory>
-    requires near { AreNear near.now worlds.old.worlds }
+    requires near { AreAdjacentArcs near.now worlds.old.worlds }
     requires on { CanContinue (A.holds strategies.now) worlds.old }
     ensures ok { OnOk result (HasManyGone (A.gives strategies.now) (λ m z. fold (kept_turns m) z (range_with_len 0 m.swaps)) worlds.old worlds.new) }
     ensures err { OnErr result (IsManyStopped (A.gives strategies.now) (λ m z. fold (kept_turns m) z (range_with_len 0 m.swaps)) worlds.old worlds.new) }
@@ -138,7 +138,7 @@ fn round<A: Strategies>(
     strategies: &A,
     near: &[Listed<Listed<ArcId>>],
 ) -> Result<(), NoMemory>
-    requires near { AreNear near.now worlds.old.worlds }
+    requires near { AreAdjacentArcs near.now worlds.old.worlds }
     requires on { CanContinue (A.holds strategies.now) worlds.old }
     ensures ok { OnOk result (HasManyGone (A.gives strategies.now) kept_round worlds.old worlds.new) }
     ensures err { OnErr result (IsManyStopped (A.gives strategies.now) kept_round worlds.old worlds.new) }
@@ -160,7 +160,7 @@ fn have_ended(worlds: &Worlds, horizon: u64) -> bool
     true
 }
 
-/// So many ticks of each chain.
+/// Takes this many ticks of each chain.
 fn pass<A: Strategies>(worlds: &mut Worlds, strategies: &A, count: u64) -> Result<(), NoMemory>
     requires on { CanContinue (A.holds strategies.now) worlds.old }
     ensures ok { OnOk result (HasManyGone (A.gives strategies.now) (λ m z. repeat count (kept_ticks m) z) worlds.old worlds.new) }
@@ -181,7 +181,7 @@ fn advance<A: Strategies>(
     horizon: u64,
     most: u64,
 ) -> Result<u64, NoMemory>
-    requires near { AreNear near.now worlds.old.worlds }
+    requires near { AreAdjacentArcs near.now worlds.old.worlds }
     requires horizon { horizon ≡ last_horizon (world_setup worlds.old) }
     requires low { have_ended (world_setup worlds.old) (many_kept worlds.old) ≡ false }
     requires some { 1 ≤ most }
@@ -204,7 +204,7 @@ fn rounds<A: Strategies>(
     strategies: &A,
     near: &[Listed<Listed<ArcId>>],
 ) -> Result<(), NoMemory>
-    requires near { AreNear near.now worlds.old.worlds }
+    requires near { AreAdjacentArcs near.now worlds.old.worlds }
     requires on { CanContinue (A.holds strategies.now) worlds.old }
     ensures ok { OnOk result (HasManyGone (A.gives strategies.now) kept_rounds worlds.old worlds.new) }
     ensures err { OnErr result (IsManyStopped (A.gives strategies.now) kept_rounds worlds.old worlds.new) }
@@ -248,7 +248,7 @@ fn listed_rounds<A: Strategies>(worlds: &mut Worlds, strategies: &A) -> Result<(
     ensures ok { OnOk result (HasManyGone (A.gives strategies.now) kept_rounds worlds.old worlds.new) }
     ensures err { OnErr result (IsManyStopped (A.gives strategies.now) kept_rounds worlds.old worlds.new) }
 {
-    match worlds.near() {
+    match worlds.adjacent_arcs() {
         Ok(near) => rounds(worlds, strategies, &near),
         Err(NoMemory) => {
             worlds.stop();

@@ -11,7 +11,7 @@ ghost use Rattle.swap_many.specs.Accounts.{account_units};
 ghost use Rattle.swap_many.specs.Kept.{kept_done, kept_finish};
 ghost use Rattle.swap_many.specs.Laws.{CanCome, Follows};
 ghost use Rattle.swap_many.specs.Many.{many_reply};
-ghost use Rattle.swap_many.specs.Opening.{AreOpenable, opened};
+ghost use Rattle.swap_many.specs.Opening.{AreOpenable, opened_swaps};
 ghost use Rattle.swap_many.specs.Stages.{Came, Finished};
 ghost use Rattle.swap_many.specs.Along.{IsCutRun};
 ghost use Rattle.swap_many.specs.Value.{AreAllHeld, ContinueAll, HasManyGone, IsManyStopped, AreUnitsPlaced, nth_chain, many_kept, world_run, made_setup, world_setup};
@@ -62,7 +62,7 @@ impl ManyWorld {
         places: Listed<Listed<Place>>,
     ) -> Result<ManyWorld, ManyFault>
         requires { AreOpenable chains.now worlds.items places }
-        ensures { Gives (λ w. w) result (opened chains.now worlds.items places) }
+        ensures { Gives (λ w. w) result (opened_swaps chains.now worlds.items places) }
     {
         match Worlds::new(alloc, chains, worlds, places) {
             Ok(worlds) => {

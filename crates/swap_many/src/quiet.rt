@@ -3,7 +3,7 @@
 ghost use Rattle.std.specs.Prelude.{◌≡◌, ◌⊎◌, ◌<◌, ◌≤◌, ◌+◌, ℕ, false, length, slice_index_or};
 ghost use Rattle.swap_world.specs.Quiet.{IsQuietState};
 ghost use Rattle.swap_world.specs.Value.{world_cast};
-ghost use Rattle.swap_many.specs.TouchingArcs.{AreNear};
+ghost use Rattle.swap_many.specs.TouchingArcs.{AreAdjacentArcs};
 ghost use Rattle.swap_many.specs.Ticking.{nth};
 ghost use Rattle.swap_many.specs.Value.{no_chain};
 
@@ -46,7 +46,7 @@ pub(crate) fn horizon_rounds(chains: &[Chain], horizon: u64, most: u64) -> u64
 
 /// Up to `most` rounds in which nobody makes a call.
 pub(crate) fn rounds_still(worlds: &[World], near: &[Listed<Listed<ArcId>>], most: u64) -> u64
-    requires near { AreNear near.now worlds.now }
+    requires near { AreAdjacentArcs near.now worlds.now }
     requires go_on { (s : ℕ) → s < length worlds.now → (nth worlds.now s).stopped ≡ false }
     ensures few { result ≤ most }
     ensures still { 0 < result → (s : ℕ) → s < length worlds.now → IsQuietState (world_cast (nth worlds.now s)) result (nth worlds.now s).state }

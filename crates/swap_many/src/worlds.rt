@@ -16,8 +16,8 @@ ghost use Rattle.swap_many.specs.Many.{last_horizon};
 ghost use Rattle.swap_many.specs.Chains.{arc_chain, place};
 ghost use Rattle.swap_many.specs.Kept.{answer_payment, answer_sweep, answer_tick, kept_done, kept_reply};
 ghost use Rattle.swap_many.specs.Laws.{CanCome, CanHappen, CanPay, CanSweep, CanTickChain};
-ghost use Rattle.swap_many.specs.TouchingArcs.{AreNear};
-ghost use Rattle.swap_many.specs.Opening.{AreOpenable, opened};
+ghost use Rattle.swap_many.specs.TouchingArcs.{AreAdjacentArcs};
+ghost use Rattle.swap_many.specs.Opening.{AreOpenable, opened_swaps};
 ghost use Rattle.swap_many.specs.ChainReplies.{told_result};
 ghost use Rattle.swap_many.specs.Value.{AreAllHeld, ContinueAll, HasManyGone, IsManyStopped, nth_chain, many_kept, made_setup, world_setup, nth_world};
 
@@ -109,7 +109,7 @@ impl Worlds {
         places: Listed<Listed<Place>>,
     ) -> Result<Worlds, ManyFault>
         requires { AreOpenable chains.now worlds.items places }
-        ensures { Gives (λ w. w) result (opened chains.now worlds.items places) }
+        ensures { Gives (λ w. w) result (opened_swaps chains.now worlds.items places) }
     {
         let opened = match open_chains(alloc, &worlds, places.as_slice(), chains) {
             Ok(opened) => opened,
@@ -405,8 +405,8 @@ impl Worlds {
     }
 
     /// The arcs that touch each party, by swap and party.
-    pub(crate) fn near(&self) -> Result<Vec<Listed<Listed<ArcId>>>, NoMemory>
-        ensures { IfOk result (λ v. AreNear v.items self.now.worlds) }
+    pub(crate) fn adjacent_arcs(&self) -> Result<Vec<Listed<Listed<ArcId>>>, NoMemory>
+        ensures { IfOk result (λ v. AreAdjacentArcs v.items self.now.worlds) }
     {
         arcs_by_swap(*self.worlds.allocator(), &self.worlds)
     }
@@ -419,7 +419,7 @@ impl Worlds {
         horizon: u64,
         most: u64,
     ) -> u64
-        requires near { AreNear near.now self.now.worlds }
+        requires near { AreAdjacentArcs near.now self.now.worlds }
         requires goes_on { self.now.stopped ≡ false }
         requires horizon { horizon ≡ last_horizon (world_setup self.now) }
         requires low { have_ended (world_setup self.now) (many_kept self.now) ≡ false }

@@ -32,7 +32,7 @@ use Rattle.offer_fields.proofs.Chains.{went}
 use Rattle.offer_header.specs.Raw.{is_plain, IsVersionMode}
 use Rattle.offer_header.specs.declared.header.Header.{Header}
 use Rattle.offer_header.specs.Header.{IsHeaderInLimits}
-use Rattle.swap_offer.specs.Checks.{build_graph, by_arcs, least_bound, connected, unless_closed, one_leader, led, unless_cycle, bounded, start_after_delta, timed}
+use Rattle.swap_offer.specs.Checks.{build_graph, by_arcs, least_bound, connected, unless_closed, one_leader, led, unless_cycle, bounded, start_after_delta, arcs_timed}
 use Rattle.swap_offer.specs.Checks.{unless_wrong, wrong_timelock, timed_unless, checked_digraph, unnamed, header_deal, IsAcceptedOrProposed, IsAcceptedUnless}
 use Rattle.swap_offer.proofs.Size.{is_sized}
 
@@ -89,9 +89,9 @@ has_timelock h g leader a e = go (slice_index h.timelocks a == timelock h.start 
     go true s k = eqb-true (slice_index h.timelocks a) (timelock h.start h.delta h.bound (leader_distance g leader (ends g a).to)) s
     go false s k = absurd (cc k)
 
-all_timed : (h : Header) (g : Graph) (leader : ℕ) (u : Unit {0}) → timed h g Timelocks (leader ∷ []) ≡ Ok u → (a : ℕ) → a < length g.arcs
+all_timed : (h : Header) (g : Graph) (leader : ℕ) (u : Unit {0}) → arcs_timed h g Timelocks (leader ∷ []) ≡ Ok u → (a : ℕ) → a < length g.arcs
     → wrong_timelock h g leader a ≡ None
-unfolding timed
+unfolding arcs_timed
 all_timed h g leader u e a lt = go (first_given_answer (wrong_timelock h g leader) (arcs g)) refl e
   where
     go : (o : Option Reason) → first_given_answer (wrong_timelock h g leader) (arcs g) ≡ o → unless_wrong o ≡ Ok u → wrong_timelock h g leader a ≡ None
@@ -100,7 +100,7 @@ all_timed h g leader u e a lt = go (first_given_answer (wrong_timelock h g leade
 
 timed_by : (h : Header) (g : Graph) (id : List ℕ) (leader height : ℕ) (u : Unit {0}) → h.leaders ≡ leader ∷ [] → HasEnds g → IsStronglyConnected g
     → leader < g.n → IsFeedback g (leader ∷ []) → IsHeight g (leader ∷ []) height
-    → timed h g Timelocks (leader ∷ []) ≡ Ok u → IsTimed Timelocks (unnamed h g id)
+    → arcs_timed h g Timelocks (leader ∷ []) ≡ Ok u → IsTimed Timelocks (unnamed h g id)
 timed_by h g id leader height u e has strong lt feedback tall t = (ap length e, timelocks)
   where
     timelocks : (a : ℕ) → a < length g.arcs → HasTimelock (unnamed h g id) a
@@ -122,14 +122,14 @@ one_of (x ∷ y ∷ xs) some few = absurd (omega arith)
 is_timed : (m : Mode) (h : Header) (g : Graph) (id : List ℕ) (u v : Unit {0}) → m ≡ h.mode → IsHeaderInLimits h → g.n ≡ length h.names → g.arcs ≡ h.arcs
     → HasEnds g
     → IsStronglyConnected g → IsFeedback g h.leaders
-    → one_leader m h.leaders ≡ Ok u → timed h g m h.leaders ≡ Ok v → IsTimed m (unnamed h g id)
+    → one_leader m h.leaders ≡ Ok u → arcs_timed h g m h.leaders ≡ Ok v → IsTimed m (unnamed h g id)
 is_timed Timelocks h g id u v m k n a has strong feedback one t =
     let e : h.leaders ≡ get_or h.leaders 0 0 ∷ [] = one_of h.leaders k.leaders.0 (has_one h.leaders u one) in
     let f : IsFeedback g (get_or h.leaders 0 0 ∷ []) = subst (IsFeedback g) e feedback in
     let few = k.leaders.0 in
     timed_by h g id (get_or h.leaders 0 0) (greatest_level g (get_or h.leaders 0 0 ∷ [])) v e has strong (rw n (k.leader.below 0 (omega (arith, few)))) f
     (heights.greatest_level_is_height g (get_or h.leaders 0 0 ∷ []) f)
-    (subst (λ (ls : List ℕ). timed h g Timelocks ls ≡ Ok v) e t)
+    (subst (λ (ls : List ℕ). arcs_timed h g Timelocks ls ≡ Ok v) e t)
 is_timed Hashkeys h g id u v m k n a has strong feedback one t = λ b lt. k.untimed (sym m) b (subst (λ (xs : List ArcEnds). b < length xs) a lt)
 
 -- In version 1 no two arcs have the same ends.
@@ -212,7 +212,7 @@ accepted : (h : Header) (g : Graph) → IsHeaderInLimits h → HasEnds g → g.n
     → is_plain h.purpose ≡ false → IsAccepted (header_deal h g)
 accepted h g k has n arcs made p stated =
     let sized = is_sized h g (header_deal h g).id k has n arcs in
-    let t : timed h g h.mode h.leaders ≡ Ok p.timed.0 = subst (λ (b : Bool). timed_unless b h g ≡ Ok p.timed.0) stated p.timed.1 in
+    let t : arcs_timed h g h.mode h.leaders ≡ Ok p.timed.0 = subst (λ (b : Bool). timed_unless b h g ≡ Ok p.timed.0) stated p.timed.1 in
     proposals.is_accepted (header_deal h g) (proposed h g k has n arcs made p) sized.hashlocks sized.keys sized.timelocks
     (is_timed h.mode h g (header_deal h g).id p.one.0 p.timed.0 refl k n arcs has p.strong p.feedback p.one.1 t)
     (sym (any_id (unnamed h g (replicate 32 0)) (header_deal h g).id))

@@ -37,7 +37,7 @@ use Rattle.offer_header.specs.Header.{IsHeaderInLimits}
 use Rattle.offer_header.specs.Raw.{is_plain}
 use Rattle.swap_offer.specs.Checks.{build_graph, by_arcs, header_digraph, connected, unless_closed, one_leader, led, unless_cycle, least_bound}
 use Rattle.swap_offer.specs.Checks.{bounded, start_after_delta}
-use Rattle.swap_offer.specs.Checks.{timed, unless_wrong, wrong_timelock, timed_unless, checked_digraph, admitted, header_deal, IsAcceptedOrProposed, IsAcceptedUnless}
+use Rattle.swap_offer.specs.Checks.{arcs_timed, unless_wrong, wrong_timelock, timed_unless, checked_digraph, admitted, header_deal, IsAcceptedOrProposed, IsAcceptedUnless}
 use Rattle.swap_offer.specs.Laws.{AdmittedIsAccepted}
 use Rattle.swap_offer.proofs.Accepted.{no_fault, accepted_for}
 
@@ -196,12 +196,12 @@ module _ (h : Header) (a : IsProposed (header_deal h (header_digraph h))) where
       let right : given ≡ wanted = s.timelock ∙ ap (timelock h.start h.delta h.bound) d in
       ap (λ (x : Bool). cond x None (Some (WrongTimelock b given wanted))) (eq-eqb given wanted right)
 
-  is_in_time : (m : Mode) → IsTimed m (header_deal h (header_digraph h)) → timed h (header_digraph h) m h.leaders ≡ Ok tt
-  unfolding timed
+  is_in_time : (m : Mode) → IsTimed m (header_deal h (header_digraph h)) → arcs_timed h (header_digraph h) m h.leaders ≡ Ok tt
+  unfolding arcs_timed
   is_in_time Hashkeys t = refl
   is_in_time Timelocks t = go h.leaders refl
     where
-      go : (ls : List ℕ) → h.leaders ≡ ls → timed h (header_digraph h) Timelocks ls ≡ Ok tt
+      go : (ls : List ℕ) → h.leaders ≡ ls → arcs_timed h (header_digraph h) Timelocks ls ≡ Ok tt
       go [] e = refl
       go (leader ∷ []) e =
           ap unless_wrong (none_all (wrong_timelock h (header_digraph h) leader) (arcs (header_digraph h))

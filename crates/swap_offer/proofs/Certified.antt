@@ -34,7 +34,7 @@ use Rattle.offer_header.specs.declared.header.Header.{Header}
 use Rattle.offer_header.specs.Header.{IsHeaderInLimits}
 use Rattle.offer_header.specs.Raw.{is_plain}
 use Rattle.swap_offer.specs.Checks.{build_graph, by_arcs, header_digraph, connected, unless_closed, one_leader, led, unless_cycle, least_bound, bounded}
-use Rattle.swap_offer.specs.Checks.{start_after_delta, timed, unless_wrong, wrong_timelock, timed_unless, checked_digraph, admitted, assemble_job}
+use Rattle.swap_offer.specs.Checks.{start_after_delta, arcs_timed, unless_wrong, wrong_timelock, timed_unless, checked_digraph, admitted, assemble_job}
 use Rattle.swap_offer.specs.Wallets.{party_conforms, party_seed, needs_seed, no_seed, seeded, wrong_seed, wrong_wallet, fitting, fitting_wallets, walleted}
 use Rattle.swap_offer.specs.Job.{provided, accepted_entries}
 use Rattle.swap_offer.specs.Certificates.{IsCertified, Certifies}
@@ -136,8 +136,8 @@ module _ (h : Header) (k : IsHeaderInLimits h) where
       let wanted : ℕ = timelock h.start h.delta h.bound (leader_distance (header_digraph h) leader (ends (header_digraph h) a).to) in
       if_not (IsCertified h) (given == wanted) (WrongTimelock a given wanted) tt
 
-  of_timed : (m : Mode) (leaders : List ℕ) → IfBad Shows (timed h (header_digraph h) m leaders)
-  unfolding timed
+  of_timed : (m : Mode) (leaders : List ℕ) → IfBad Shows (arcs_timed h (header_digraph h) m leaders)
+  unfolding arcs_timed
   of_timed Hashkeys leaders = tt
   of_timed Timelocks [] = tt
   of_timed Timelocks (leader ∷ []) =

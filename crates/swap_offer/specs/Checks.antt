@@ -95,14 +95,14 @@ unless_wrong None = Ok tt
 unless_wrong (Some reason) = Err reason
 
 -- with timelocks each arc has its timelock
-unfoldable pub timed : Header → Graph → Mode → List ℕ → Result (Unit {0}) Reason
-timed h g Timelocks (leader ∷ []) = unless_wrong (first_given_answer (wrong_timelock h g leader) (arcs g))
-timed h g _ _ = Ok tt
+unfoldable pub arcs_timed : Header → Graph → Mode → List ℕ → Result (Unit {0}) Reason
+arcs_timed h g Timelocks (leader ∷ []) = unless_wrong (first_given_answer (wrong_timelock h g leader) (arcs g))
+arcs_timed h g _ _ = Ok tt
 
 -- a plain job states no timelocks
 abbrev pub timed_unless : (plain : Bool) → Header → Graph → Result (Unit {0}) Reason
 timed_unless true h g = Ok tt
-timed_unless false h g = timed h g h.mode h.leaders
+timed_unless false h g = arcs_timed h g h.mode h.leaders
 
 -- the deal but for its id
 abbrev pub unnamed : Header → Graph → List ℕ → Deal

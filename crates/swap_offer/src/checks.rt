@@ -8,7 +8,7 @@ ghost use Rattle.leader_check.specs.Levels.{greatest_level};
 ghost use Rattle.leader_check.specs.Distance.{leader_distance};
 ghost use Rattle.offer_header.specs.Header.{IsHeaderInLimits};
 ghost use Rattle.offer_header.specs.Raw.{is_plain};
-ghost use Rattle.swap_offer.specs.Checks.{arc_reason, build_graph, connected, one_leader, led, least_bound, bounded, start_after_delta, wrong_timelock, timed};
+ghost use Rattle.swap_offer.specs.Checks.{arc_reason, build_graph, connected, one_leader, led, least_bound, bounded, start_after_delta, wrong_timelock, arcs_timed};
 ghost use Rattle.swap_offer.specs.Checks.{timed_unless, checked_digraph};
 
 use digraph_check::{Strength, strong};
@@ -166,7 +166,7 @@ fn first_wrong_timelock(
     None
 }
 
-#[tactic(auto, unfolding(crate::specs::Checks::timed))]
+#[tactic(auto, unfolding(crate::specs::Checks::arcs_timed))]
 fn check_timelocks(
     alloc: Global,
     header: &Header,
@@ -180,7 +180,7 @@ fn check_timelocks(
     requires strong { IsStronglyConnected graph.now }
     requires feedback { IsFeedback graph.now header.now.leaders }
     requires height { IsHeight graph.now header.now.leaders levels.now.h }
-    ensures { Gives (λ u. u) result (timed header.now graph.now header.now.mode header.now.leaders) }
+    ensures { Gives (λ u. u) result (arcs_timed header.now graph.now header.now.mode header.now.leaders) }
 {
     match (header.mode, header.leaders.as_slice()) {
         (Mode::Timelocks, [leader]) => {

@@ -130,7 +130,7 @@ fn with_seed(alloc: Global, deal: &Deal, p: PartyId, seed: &Digest) -> Result<Wa
     ensures fits { Gives (λ _. tt) result (unless_wrong (option_map (WrongWallet p) (wrong_lock deal.now p seed.now))) }
     ensures made { IfOk result (λ w. w ≡ new_wallet seed.now p deal.now) }
 {
-    let wallet = Wallet::of(alloc, seed, p, deal)?;
+    let wallet = Wallet::for_deal(alloc, seed, p, deal)?;
     match wallet.wrong_lock(deal) {
         None => Ok(wallet),
         Some(lock) => Err(Fault::Refused(Reason::WrongWallet(p, lock))),

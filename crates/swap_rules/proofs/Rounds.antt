@@ -135,8 +135,8 @@ and_false : (z : Bool) → (z && false) ≡ false
 and_false true = refl
 and_false false = refl
 
--- no lock is withheld over knowledge of which nothing is more than delta above a height by which
--- contracts open
+-- no lock is withheld where no known ledger is more than delta above a height by which contracts
+-- open
 pub not_withheld : (d : Deal) (v : ℕ) (k : Histories) (i t : ℕ) → ((a : ℕ) → height (history k a) ≤ t + d.delta)
     → (leads d v i ≡ true → t ≤ times.opening_deadline d.start d.delta d.bound) → is_withheld d v k i ≡ false
 not_withheld d v k i t low early = go (leads d v i) refl

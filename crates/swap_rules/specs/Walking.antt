@@ -81,7 +81,8 @@ pub record IsWatchful (d : Deal) (b : Histories) (v : ℕ) : Type 0 where
 abbrev pub WatchfulIsSafe : Type 0
 WatchfulIsSafe = (d : Deal) (b : Histories) (v : ℕ) → IsAccepted d → IsLegalBook d b → IsConducted d b v → IsWatchful d b v → IsSafe d b v
 
--- in such a book that has ended a conducted party that is nowhere late is watchful
+-- in a legal book of an accepted deal that has ended, a conducted party that is nowhere late is
+-- watchful
 abbrev pub OnTimeIsWatchful : Type 0
 OnTimeIsWatchful =
     (d : Deal) (b : Histories) (v : ℕ) → IsAccepted d → IsLegalBook d b → IsEnded d b → IsConducted d b v → IsOnTime d b v → IsWatchful d b v
@@ -153,7 +154,8 @@ abbrev pub UnpublishedLosesNothing : Type 0
 UnpublishedLosesNothing =
     (d : Deal) (b : Histories) (v : ℕ) → IsAccepted d → IsLegalBook d b → HasPublishedNothing d b v → GivesNothing d b v → LosesNothing d b v
 
--- and one that makes no call at all is left with no deal
+-- In every legal book of an accepted deal, a party that makes no call loses nothing and is left
+-- with no deal.
 abbrev pub SilentLosesNothing : Type 0
 SilentLosesNothing =
     (d : Deal) (b : Histories) (v : ℕ) → IsAccepted d → IsLegalBook d b → IsSilent b v → LosesNothing d b v × (outcome d b v ≡ NoDeal)

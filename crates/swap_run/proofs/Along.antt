@@ -21,14 +21,14 @@ use Rattle.swap_run.specs.Fair.{repeat, adjacent_arcs, looks, acts, most_acts, t
 use Rattle.swap_run.specs.Fair.{round_unless_ended, finish}
 use Rattle.swap_run.specs.FairLaws.{IsReached}
 use Rattle.swap_run.specs.Steps.{after_low, act_steps, finish_steps, look_steps, low_step, low_steps, pass_steps, round_steps, rounds_steps, tick_steps}
-use Rattle.swap_run.specs.Steps.{turn_steps, turns_steps, unless_steps, FinishIsSteps, IsAlong}
+use Rattle.swap_run.specs.Steps.{turn_steps, turns_steps, unless_steps, FinishIsSteps, IsIntermediateBook}
 use Rattle.swap_run.proofs.Repeats.{repeat_first}
 
 module _ (c : Cast) where
-  pub along_start : (s : State) (xs : List Event) (b : Histories) → b ≡ s.book → IsAlong c s xs b
+  pub along_start : (s : State) (xs : List Event) (b : Histories) → b ≡ s.book → IsIntermediateBook c s xs b
   along_start s xs b e = record { count = 0; few = omega arith; book = e }
 
-  pub along_more : (s : State) (xs ys : List Event) (b : Histories) → IsAlong c s xs b → IsAlong c s (xs ++ ys) b
+  pub along_more : (s : State) (xs ys : List Event) (b : Histories) → IsIntermediateBook c s xs b → IsIntermediateBook c s (xs ++ ys) b
   along_more s xs ys b k =
       let l : length (xs ++ ys) ≡ length xs + length ys = length-append xs ys in
       let few = k.few in
@@ -38,7 +38,7 @@ module _ (c : Cast) where
         book = k.book ∙ ap (λ (es : List Event). (continued_run c s es).book) (sym (take-append-le k.count xs ys k.few));
       }
 
-  pub along_after : (s : State) (xs ys : List Event) (b : Histories) → IsAlong c (continued_run c s xs) ys b → IsAlong c s (xs ++ ys) b
+  pub along_after : (s : State) (xs ys : List Event) (b : Histories) → IsIntermediateBook c (continued_run c s xs) ys b → IsIntermediateBook c s (xs ++ ys) b
   along_after s xs ys b k =
       let l : length (xs ++ ys) ≡ length xs + length ys = length-append xs ys in
       let few = k.few in
@@ -49,13 +49,13 @@ module _ (c : Cast) where
             ∙ ap (λ (es : List Event). (continued_run c s es).book) (sym (take-append-add xs ys k.count));
       }
 
-  pub along_split : (s : State) (xs ys : List Event) (b : Histories) → IsAlong c s (xs ++ ys) b → IsAlong c s xs b ⊎ IsAlong c (continued_run c s xs) ys b
+  pub along_split : (s : State) (xs ys : List Event) (b : Histories) → IsIntermediateBook c s (xs ++ ys) b → IsIntermediateBook c s xs b ⊎ IsIntermediateBook c (continued_run c s xs) ys b
   along_split s xs ys b k = go (nat_le k.count (length xs)) refl
     where
       l : length (xs ++ ys) ≡ length xs + length ys
       l = length-append xs ys
 
-      go : (y : Bool) → nat_le k.count (length xs) ≡ y → IsAlong c s xs b ⊎ IsAlong c (continued_run c s xs) ys b
+      go : (y : Bool) → nat_le k.count (length xs) ≡ y → IsIntermediateBook c s xs b ⊎ IsIntermediateBook c (continued_run c s xs) ys b
       go true e =
           let low : k.count ≤ length xs = leb-true k.count (length xs) e in
           inl (record {
@@ -75,17 +75,17 @@ module _ (c : Cast) where
                 ∙ ap (λ (t : State). t.book) (fold-append (step c) s xs (take (k.count - length xs) ys));
           })
 
-  pub along_none : (s : State) (b : Histories) → IsAlong c s [] b → b ≡ s.book
+  pub along_none : (s : State) (b : Histories) → IsIntermediateBook c s [] b → b ≡ s.book
   along_none s b k = k.book ∙ ap (λ (es : List Event). (continued_run c s es).book) (take-nil k.count)
 
-  pub along_one : (s : State) (e : Event) (b : Histories) → IsAlong c s (e ∷ []) b → (b ≡ s.book) ⊎ (b ≡ (step c s e).book)
+  pub along_one : (s : State) (e : Event) (b : Histories) → IsIntermediateBook c s (e ∷ []) b → (b ≡ s.book) ⊎ (b ≡ (step c s e).book)
   along_one s e b k = go k.count k.book
     where
       go : (n : ℕ) → b ≡ (continued_run c s (take n (e ∷ []))).book → (b ≡ s.book) ⊎ (b ≡ (step c s e).book)
       go zero q = inl q
       go (suc n) q = inr (q ∙ ap (λ (es : List Event). (continued_run c (step c s e) es).book) (take-nil n))
 
-  pub along_step : (s : State) (e : Event) (b : Histories) → (b ≡ s.book) ⊎ (b ≡ (step c s e).book) → IsAlong c s (e ∷ []) b
+  pub along_step : (s : State) (e : Event) (b : Histories) → (b ≡ s.book) ⊎ (b ≡ (step c s e).book) → IsIntermediateBook c s (e ∷ []) b
   along_step s e b (inl q) = along_start s (e ∷ []) b q
   along_step s e b (inr q) = record { count = 1; few = omega arith; book = q }
 
@@ -195,11 +195,11 @@ module _ (c : Cast) where
 
   -- Ticks go by the histories alone.
 
-  low_same : (js : List ℕ) (s t : State) (b : Histories) → t.book ≡ s.book → IsAlong c s (low_steps c.deal s.book js) b
-      → IsAlong c t (low_steps c.deal t.book js) b
+  low_same : (js : List ℕ) (s t : State) (b : Histories) → t.book ≡ s.book → IsIntermediateBook c s (low_steps c.deal s.book js) b
+      → IsIntermediateBook c t (low_steps c.deal t.book js) b
   low_same [] s t b e k = along_start t [] b (along_none s b k ∙ sym e)
   low_same (a ∷ js) s t b e k =
-      subst (λ (x : Histories). IsAlong c t (low_step c.deal x a ++ low_steps c.deal (after_low c.deal x a) js) b) (sym e)
+      subst (λ (x : Histories). IsIntermediateBook c t (low_step c.deal x a ++ low_steps c.deal (after_low c.deal x a) js) b) (sym e)
       (go (nat_le (height (history s.book a)) (the_horizon c.deal)) (λ x y q. low_same js x y b q) k)
     where
       after : Histories
@@ -212,22 +212,22 @@ module _ (c : Cast) where
       first (inl q) = inl (q ∙ sym e)
       first (inr q) = inr (q ∙ sym both)
 
-      ticked : ((x y : State) → y.book ≡ x.book → IsAlong c x (low_steps c.deal x.book js) b → IsAlong c y (low_steps c.deal y.book js) b)
-          → IsAlong c s (Tick a 1 ∷ []) b ⊎ IsAlong c (step c s (Tick a 1)) (low_steps c.deal after js) b
-          → IsAlong c t ((Tick a 1 ∷ []) ++ low_steps c.deal after js) b
+      ticked : ((x y : State) → y.book ≡ x.book → IsIntermediateBook c x (low_steps c.deal x.book js) b → IsIntermediateBook c y (low_steps c.deal y.book js) b)
+          → IsIntermediateBook c s (Tick a 1 ∷ []) b ⊎ IsIntermediateBook c (step c s (Tick a 1)) (low_steps c.deal after js) b
+          → IsIntermediateBook c t ((Tick a 1 ∷ []) ++ low_steps c.deal after js) b
       ticked rest (inl x) = along_more t (Tick a 1 ∷ []) (low_steps c.deal after js) b (along_step t (Tick a 1) b (first (along_one s (Tick a 1) b x)))
       ticked rest (inr x) =
           along_after t (Tick a 1 ∷ []) (low_steps c.deal after js) b
-          (subst (λ (h : Histories). IsAlong c (step c t (Tick a 1)) (low_steps c.deal h js) b) both
+          (subst (λ (h : Histories). IsIntermediateBook c (step c t (Tick a 1)) (low_steps c.deal h js) b) both
           (rest (step c s (Tick a 1)) (step c t (Tick a 1)) both x))
 
-      go : (y : Bool) → ((x y : State) → y.book ≡ x.book → IsAlong c x (low_steps c.deal x.book js) b → IsAlong c y (low_steps c.deal y.book js) b)
-          → IsAlong c s (cond y (Tick a 1 ∷ []) [] ++ low_steps c.deal (cond y after s.book) js) b
-          → IsAlong c t (cond y (Tick a 1 ∷ []) [] ++ low_steps c.deal (cond y after s.book) js) b
+      go : (y : Bool) → ((x y : State) → y.book ≡ x.book → IsIntermediateBook c x (low_steps c.deal x.book js) b → IsIntermediateBook c y (low_steps c.deal y.book js) b)
+          → IsIntermediateBook c s (cond y (Tick a 1 ∷ []) [] ++ low_steps c.deal (cond y after s.book) js) b
+          → IsIntermediateBook c t (cond y (Tick a 1 ∷ []) [] ++ low_steps c.deal (cond y after s.book) js) b
       go true rest x = ticked rest (along_split s (Tick a 1 ∷ []) (low_steps c.deal after js) b x)
-      go false rest x = subst (λ (h : Histories). IsAlong c t (low_steps c.deal h js) b) e (rest s t e x)
+      go false rest x = subst (λ (h : Histories). IsIntermediateBook c t (low_steps c.deal h js) b) e (rest s t e x)
 
-  pub ticks_same : (s t : State) (b : Histories) → t.book ≡ s.book → IsAlong c s (tick_steps c.deal s.book) b → IsAlong c t (tick_steps c.deal t.book) b
+  pub ticks_same : (s t : State) (b : Histories) → t.book ≡ s.book → IsIntermediateBook c s (tick_steps c.deal s.book) b → IsIntermediateBook c t (tick_steps c.deal t.book) b
   unfolding tick_steps
   ticks_same s t b e k = low_same (arcs c.deal.graph) s t b e k
 
@@ -290,7 +290,7 @@ module _ (c : Cast) where
   finish_can s = rounds_can (the_horizon c.deal + 1) s
 
   -- events lead to the state of such histories
-  pub along_reached : (s : State) (events : List Event) (b : Histories) → All Can events → (k : IsAlong c s events b)
+  pub along_reached : (s : State) (events : List Event) (b : Histories) → All Can events → (k : IsIntermediateBook c s events b)
       → IsReached c s (continued_run c s (take k.count events))
   along_reached s events b can k = record { events = take k.count events; can = All-take Can k.count events can; state = refl }
 

@@ -1,5 +1,5 @@
--- Strategies are asked in order: what a run comes to depends on the answers that it asked and on no
--- other.
+-- Strategies are asked in order: where a run leads depends on the answers that it asked for and on
+-- no other.
 use Rattle.std.proofs.Common.{◌≡◌, ℕ, zero, suc, ◌+◌, ◌≤◌, ◌<◌, nat_le, Bool, true, false, cond, ◌||◌, List, [], ◌∷◌, ◌++◌, length, fold, get_or, Option}
 use Rattle.std.proofs.Common.{Some, None, refl, sym, ap, ◌∙◌, subst, arith}
 use Rattle.std.specs.List.{range_with_len, list_any}

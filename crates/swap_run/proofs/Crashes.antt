@@ -114,7 +114,7 @@ module _ (d : Deal) (b : Histories) (n : Notes) (v : ℕ) (legal : IsLegalBook d
     sound = restart_sound d v n.known (relearnt d v b) (signed_hashkey n.signed) after_legal knows_more h.sound.rules;
   }
 
-  -- and the hashkey of the act
+  -- the journal has the hashkey of the act
   pub hold_recorded : (w : Wallet) (x : Action) → IsWallet d v w → IsAccepted d → IsElement x (due d v w (signed_hashkey n.signed) n.known)
       → Holds d b (record { known = relearnt d v b; signed = signed_through_call n.signed x.call }) v
   hold_recorded w x wallet fits i = record {

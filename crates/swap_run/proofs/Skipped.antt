@@ -16,7 +16,7 @@ use Rattle.swap_run.specs.Run.{Cast, Notes, State, conforms, party_role, is_plan
 use Rattle.swap_run.specs.Fair.{repeat, adjacent_arcs, looks, acts, most_acts, turn, turns, ticks, round, is_above_horizon, round_unless_ended}
 use Rattle.swap_run.specs.Quiet.{overlaid_histories}
 use Rattle.swap_run.specs.Steps.{act_steps, look_steps, pass_steps, round_steps, rounds_steps, tick_steps, turn_steps, turns_steps, unless_steps}
-use Rattle.swap_run.specs.Steps.{IsAlong, IsSkipped}
+use Rattle.swap_run.specs.Steps.{IsIntermediateBook, IsSkipped}
 use Rattle.swap_run.proofs.Along.{along_start, along_more, along_after, along_split, along_none, along_one, looks_run, acts_run, turn_run, turns_run}
 use Rattle.swap_run.proofs.Along.{rounds_run, pass_run, ticks_same}
 use Rattle.swap_run.proofs.Quiet.{with_note, looks_other, acts_other, looks_forget, turn_forgets, turn_other, turn_keeps, turn_many, calm_turns, calm_round}
@@ -36,14 +36,14 @@ module _ (c : Cast) where
   looks_book v [] s = refl
   looks_book v (a ∷ js) s = looks_book v js (step c s (Look v a)) ∙ look_book v a s
 
-  along_looks : (v : ℕ) (js : List ℕ) (s : State) (b : Histories) → IsAlong c s (map (λ a. Look v a) js) b → b ≡ s.book
+  along_looks : (v : ℕ) (js : List ℕ) (s : State) (b : Histories) → IsIntermediateBook c s (map (λ a. Look v a) js) b → b ≡ s.book
   along_looks v js s b k =
       k.book ∙ ap (λ (es : List Event). (continued_run c s es).book) (take-map (λ a. Look v a) k.count js) ∙ looks_book v (take k.count js) s
 
-  -- So many acts.
+  -- Several acts in a row.
 
-  along_acts : (m v : ℕ) (s t : State) (b : Histories) → ((k : ℕ) → (acts c v k t).book ≡ (acts c v k s).book) → IsAlong c s (replicate m (Act v)) b
-      → IsAlong c t (replicate m (Act v)) b
+  along_acts : (m v : ℕ) (s t : State) (b : Histories) → ((k : ℕ) → (acts c v k t).book ≡ (acts c v k s).book) → IsIntermediateBook c s (replicate m (Act v)) b
+      → IsIntermediateBook c t (replicate m (Act v)) b
   along_acts m v s t b same k =
       let few : k.count ≤ m = subst (λ n. k.count ≤ n) (length-replicate m (Act v)) k.few in
       let some = take-replicate k.count m (Act v) few in
@@ -69,18 +69,18 @@ module _ (c : Cast) where
 
     acts_part : (y : Bool) (x u : ℕ) (s : State) (n : Notes) (b : Histories) → conforms c x ≡ y → x < c.deal.graph.n → x < length s.notes
         → u < length s.notes → conforms c u ≡ true → IsStale c s u n → (x ≡ u) ⊎ (x ≢ u)
-        → IsAlong c (looks c x s) (cond y (replicate (most_acts c.deal) (Act x)) (Act x ∷ [])) b
-        → IsAlong c (with_note s u n) (look_steps c.deal x ++ cond y (replicate (most_acts c.deal) (Act x)) (Act x ∷ [])) b
+        → IsIntermediateBook c (looks c x s) (cond y (replicate (most_acts c.deal) (Act x)) (Act x ∷ [])) b
+        → IsIntermediateBook c (with_note s u n) (look_steps c.deal x ++ cond y (replicate (most_acts c.deal) (Act x)) (Act x ∷ [])) b
     acts_part true x u s n b cx lx l lu cu stale (inl e) k =
         let same : looks c x (with_note s u n) ≡ looks c x s =
         subst (λ z. looks c z (with_note s u n) ≡ looks c z s) (sym e) (looks_forget c s u n cu lu stale) in
         along_after c (with_note s u n) (look_steps c.deal x) (replicate (most_acts c.deal) (Act x)) b
-        (subst (λ (t : State). IsAlong c t (replicate (most_acts c.deal) (Act x)) b) (sym (looks_run c x (with_note s u n) ∙ same)) k)
+        (subst (λ (t : State). IsIntermediateBook c t (replicate (most_acts c.deal) (Act x)) b) (sym (looks_run c x (with_note s u n) ∙ same)) k)
     acts_part true x u s n b cx lx l lu cu stale (inr apart) k =
         let far : u ≢ x = λ e. apart (sym e) in
         let other : looks c x (with_note s u n) ≡ with_note (looks c x s) u n = looks_other c s u x n far cx l in
         along_after c (with_note s u n) (look_steps c.deal x) (replicate (most_acts c.deal) (Act x)) b
-        (subst (λ (t : State). IsAlong c t (replicate (most_acts c.deal) (Act x)) b) (sym (looks_run c x (with_note s u n) ∙ other))
+        (subst (λ (t : State). IsIntermediateBook c t (replicate (most_acts c.deal) (Act x)) b) (sym (looks_run c x (with_note s u n) ∙ other))
         (along_acts (most_acts c.deal) x (looks c x s) (with_note (looks c x s) u n) b
         (λ i. ap (λ (t : State). t.book) (acts_other c i (looks c x s) u x n far cx)) k))
     acts_part false x u s n b cx lx l lu cu stale where_it_is k =
@@ -94,20 +94,20 @@ module _ (c : Cast) where
         by (inr q) = q ∙ ap (λ (t : State). t.book) (act_rests x (looks c x s) cx (plain x lx cx)) ∙ whole
 
     turn_part : (x u : ℕ) (s : State) (n : Notes) (b : Histories) → x < c.deal.graph.n → x < length s.notes → u < length s.notes → conforms c u ≡ true
-        → IsStale c s u n → IsAlong c s (turn_steps c x) b → IsAlong c (with_note s u n) (turn_steps c x) b
+        → IsStale c s u n → IsIntermediateBook c s (turn_steps c x) b → IsIntermediateBook c (with_note s u n) (turn_steps c x) b
     unfolding turn_steps
     turn_part x u s n b lx l lu cu stale k = go (along_split c s (look_steps c.deal x) (act_steps c x) b k)
       where
-        go : IsAlong c s (look_steps c.deal x) b ⊎ IsAlong c (continued_run c s (look_steps c.deal x)) (act_steps c x) b
-            → IsAlong c (with_note s u n) (look_steps c.deal x ++ act_steps c x) b
+        go : IsIntermediateBook c s (look_steps c.deal x) b ⊎ IsIntermediateBook c (continued_run c s (look_steps c.deal x)) (act_steps c x) b
+            → IsIntermediateBook c (with_note s u n) (look_steps c.deal x ++ act_steps c x) b
         go (inl i) = along_start c (with_note s u n) (look_steps c.deal x ++ act_steps c x) b (along_looks x (adjacent_arcs c.deal x) s b i)
         go (inr i) =
             acts_part (conforms c x) x u s n b refl lx l lu cu stale (same_or_not x u)
-            (subst (λ (t : State). IsAlong c t (act_steps c x) b) (looks_run c x s) i)
+            (subst (λ (t : State). IsIntermediateBook c t (act_steps c x) b) (looks_run c x s) i)
 
     turns_part : (xs : List ℕ) (u : ℕ) (s : State) (n : Notes) (b : Histories) → ((x : ℕ) → IsElement x xs → x < c.deal.graph.n)
-        → length s.notes ≡ c.deal.graph.n → u < c.deal.graph.n → conforms c u ≡ true → IsStale c s u n → IsAlong c s (flat_map (turn_steps c) xs) b
-        → IsAlong c (with_note s u n) (flat_map (turn_steps c) xs) b
+        → length s.notes ≡ c.deal.graph.n → u < c.deal.graph.n → conforms c u ≡ true → IsStale c s u n → IsIntermediateBook c s (flat_map (turn_steps c) xs) b
+        → IsIntermediateBook c (with_note s u n) (flat_map (turn_steps c) xs) b
     turns_part [] u s n b low many lu cu stale k = along_start c (with_note s u n) [] b (along_none c s b k)
     turns_part (x ∷ xs) u s n b low many lu cu stale k =
         go (λ t far old i. turns_part xs u t n b (λ y j. low y (inr j)) far lu cu old i) (along_split c s (turn_steps c x) (flat_map (turn_steps c) xs) b k)
@@ -121,43 +121,43 @@ module _ (c : Cast) where
         here : u < length s.notes
         here = rw many lu
 
-        after : ((t : State) → length t.notes ≡ c.deal.graph.n → IsStale c t u n → IsAlong c t (flat_map (turn_steps c) xs) b
-            → IsAlong c (with_note t u n) (flat_map (turn_steps c) xs) b)
-            → (x ≡ u) ⊎ (x ≢ u) → IsAlong c (turn c s x) (flat_map (turn_steps c) xs) b
-            → IsAlong c (turn c (with_note s u n) x) (flat_map (turn_steps c) xs) b
+        after : ((t : State) → length t.notes ≡ c.deal.graph.n → IsStale c t u n → IsIntermediateBook c t (flat_map (turn_steps c) xs) b
+            → IsIntermediateBook c (with_note t u n) (flat_map (turn_steps c) xs) b)
+            → (x ≡ u) ⊎ (x ≢ u) → IsIntermediateBook c (turn c s x) (flat_map (turn_steps c) xs) b
+            → IsIntermediateBook c (turn c (with_note s u n) x) (flat_map (turn_steps c) xs) b
         after rest (inl e) i =
             let same : turn c (with_note s u n) x ≡ turn c s x =
             subst (λ z. turn c (with_note s u n) z ≡ turn c s z) (sym e) (turn_forgets c s u n cu here stale) in
-            subst (λ (t : State). IsAlong c t (flat_map (turn_steps c) xs) b) (sym same) i
+            subst (λ (t : State). IsIntermediateBook c t (flat_map (turn_steps c) xs) b) (sym same) i
         after rest (inr apart) i =
             let kept : state_notes (turn c s x) u ≡ state_notes s u = turn_keeps c plain s u x lx (λ e. apart (sym e)) here l in
-            subst (λ (t : State). IsAlong c t (flat_map (turn_steps c) xs) b) (sym (turn_other c plain s u x n lx (λ e. apart (sym e)) l))
+            subst (λ (t : State). IsIntermediateBook c t (flat_map (turn_steps c) xs) b) (sym (turn_other c plain s u x n lx (λ e. apart (sym e)) l))
             (rest (turn c s x) (turn_many c plain s x lx l ∙ many) (record {
               signed = stale.signed ∙ ap (λ (m : Notes). m.signed) (sym kept);
               known = λ h. stale.known h ∙ ap (λ (m : Notes). overlaid_histories h (adjacent_arcs c.deal u) m.known) (sym kept);
             }) i)
 
-        go : ((t : State) → length t.notes ≡ c.deal.graph.n → IsStale c t u n → IsAlong c t (flat_map (turn_steps c) xs) b
-            → IsAlong c (with_note t u n) (flat_map (turn_steps c) xs) b)
-            → IsAlong c s (turn_steps c x) b ⊎ IsAlong c (continued_run c s (turn_steps c x)) (flat_map (turn_steps c) xs) b
-            → IsAlong c (with_note s u n) (turn_steps c x ++ flat_map (turn_steps c) xs) b
+        go : ((t : State) → length t.notes ≡ c.deal.graph.n → IsStale c t u n → IsIntermediateBook c t (flat_map (turn_steps c) xs) b
+            → IsIntermediateBook c (with_note t u n) (flat_map (turn_steps c) xs) b)
+            → IsIntermediateBook c s (turn_steps c x) b ⊎ IsIntermediateBook c (continued_run c s (turn_steps c x)) (flat_map (turn_steps c) xs) b
+            → IsIntermediateBook c (with_note s u n) (turn_steps c x ++ flat_map (turn_steps c) xs) b
         go rest (inl i) =
             along_more c (with_note s u n) (turn_steps c x) (flat_map (turn_steps c) xs) b (turn_part x u s n b lx l here cu stale i)
         go rest (inr i) =
             along_after c (with_note s u n) (turn_steps c x) (flat_map (turn_steps c) xs) b
-            (subst (λ (t : State). IsAlong c t (flat_map (turn_steps c) xs) b) (sym (turn_run c x (with_note s u n)))
-            (after rest (same_or_not x u) (subst (λ (t : State). IsAlong c t (flat_map (turn_steps c) xs) b) (turn_run c x s) i)))
+            (subst (λ (t : State). IsIntermediateBook c t (flat_map (turn_steps c) xs) b) (sym (turn_run c x (with_note s u n)))
+            (after rest (same_or_not x u) (subst (λ (t : State). IsIntermediateBook c t (flat_map (turn_steps c) xs) b) (turn_run c x s) i)))
 
     -- what is on the way of the turns after ticks is so after a quiet round
-    turns_way : (s : State) (b : Histories) → length s.notes ≡ c.deal.graph.n → AllIdle c plain s → IsAlong c (ticks c s) (turns_steps c) b
-        → IsAlong c (round c s) (turns_steps c) b
+    turns_way : (s : State) (b : Histories) → length s.notes ≡ c.deal.graph.n → AllIdle c plain s → IsIntermediateBook c (ticks c s) (turns_steps c) b
+        → IsIntermediateBook c (round c s) (turns_steps c) b
     unfolding round turns turns_steps
     turns_way s b many idle k =
-        skips_for c plain (λ t. IsAlong c t (flat_map (turn_steps c) (range_with_len 0 c.deal.graph.n)) b)
+        skips_for c plain (λ t. IsIntermediateBook c t (flat_map (turn_steps c) (range_with_len 0 c.deal.graph.n)) b)
         (λ u t n cu lu m stale h. turns_part (range_with_len 0 c.deal.graph.n) u t n b (λ x i. from_range x c.deal.graph.n i) m lu cu stale h)
         (range_with_len 0 c.deal.graph.n) s (λ x i. from_range x c.deal.graph.n i) many idle k
 
-    -- So many quiet rounds.
+    -- Several quiet rounds in a row.
 
     module _ (n : ℕ) (s : State) (many : length s.notes ≡ c.deal.graph.n)
         (on : (i : ℕ) → i ≤ n → is_above_horizon c.deal (repeat i (ticks c) s).book ≡ false)
@@ -187,53 +187,53 @@ module _ (c : Cast) where
           ∙ calm_turns c plain (ticked (suc m)) (many_at (suc m)) (idle (suc m) lt)
 
       -- on the way of the round number i
-      here : (i : ℕ) (b : Histories) → i ≤ n → IsAlong c (rounded i) (round_steps c (rounded i)) b → IsAlong c s (rounds_steps (suc i) c s) b
+      here : (i : ℕ) (b : Histories) → i ≤ n → IsIntermediateBook c (rounded i) (round_steps c (rounded i)) b → IsIntermediateBook c s (rounds_steps (suc i) c s) b
       here i b le k =
           let low : is_above_horizon c.deal (rounded i).book ≡ false = ap (is_above_horizon c.deal) (round_book i le) ∙ on i le in
           let is : unless_steps c (rounded i) ≡ round_steps c (rounded i) = ap (λ (y : Bool). cond y [] (round_steps c (rounded i))) low in
           along_after c s (rounds_steps i c s) (unless_steps c (rounded i)) b
-          (subst (λ (es : List Event). IsAlong c (continued_run c s (rounds_steps i c s)) es b) (sym is)
-          (subst (λ (t : State). IsAlong c t (round_steps c (rounded i)) b) (sym (rounds_run c i s)) k))
+          (subst (λ (es : List Event). IsIntermediateBook c (continued_run c s (rounds_steps i c s)) es b) (sym is)
+          (subst (λ (t : State). IsIntermediateBook c t (round_steps c (rounded i)) b) (sym (rounds_run c i s)) k))
 
-      pass_way : (m : ℕ) (b : Histories) → m ≤ n → IsAlong c s (pass_steps m c s) b → IsAlong c s (rounds_steps m c s) b
+      pass_way : (m : ℕ) (b : Histories) → m ≤ n → IsIntermediateBook c s (pass_steps m c s) b → IsIntermediateBook c s (rounds_steps m c s) b
       pass_way zero b le k = k
       pass_way (suc m) b le k = go (λ i. pass_way m b (omega (arith, le)) i) (along_split c s (pass_steps m c s) (tick_steps c.deal (ticked m).book) b k)
         where
           low : m ≤ n
           low = omega (arith, le)
 
-          go : (IsAlong c s (pass_steps m c s) b → IsAlong c s (rounds_steps m c s) b)
-              → IsAlong c s (pass_steps m c s) b ⊎ IsAlong c (continued_run c s (pass_steps m c s)) (tick_steps c.deal (ticked m).book) b
-              → IsAlong c s (rounds_steps (suc m) c s) b
+          go : (IsIntermediateBook c s (pass_steps m c s) b → IsIntermediateBook c s (rounds_steps m c s) b)
+              → IsIntermediateBook c s (pass_steps m c s) b ⊎ IsIntermediateBook c (continued_run c s (pass_steps m c s)) (tick_steps c.deal (ticked m).book) b
+              → IsIntermediateBook c s (rounds_steps (suc m) c s) b
           go rest (inl i) = along_more c s (rounds_steps m c s) (unless_steps c (rounded m)) b (rest i)
           go rest (inr i) =
               here m b low (along_after c (rounded m) (turns_steps c) (tick_steps c.deal (turns c (rounded m)).book) b
-              (subst (λ (t : State). IsAlong c t (tick_steps c.deal (turns c (rounded m)).book) b) (sym (turns_run c (rounded m)))
+              (subst (λ (t : State). IsIntermediateBook c t (tick_steps c.deal (turns c (rounded m)).book) b) (sym (turns_run c (rounded m)))
               (ticks_same c (ticked m) (turns c (rounded m)) b (turned_at m (omega (arith, le)))
-              (subst (λ (t : State). IsAlong c t (tick_steps c.deal (ticked m).book) b) (pass_run c m s) i))))
+              (subst (λ (t : State). IsIntermediateBook c t (tick_steps c.deal (ticked m).book) b) (pass_run c m s) i))))
 
-      round_way : (t : State) (b : Histories) → length t.notes ≡ c.deal.graph.n → AllIdle c plain t → IsAlong c (ticks c t) (round_steps c (ticks c t)) b
-          → IsAlong c (round c t) (round_steps c (round c t)) b
+      round_way : (t : State) (b : Histories) → length t.notes ≡ c.deal.graph.n → AllIdle c plain t → IsIntermediateBook c (ticks c t) (round_steps c (ticks c t)) b
+          → IsIntermediateBook c (round c t) (round_steps c (round c t)) b
       round_way t b far still k = go (along_split c (ticks c t) (turns_steps c) (tick_steps c.deal (turns c (ticks c t)).book) b k)
         where
           same : turns c (round c t) ≡ turns c (ticks c t)
           same = turns_skip c plain t far still
 
-          go : IsAlong c (ticks c t) (turns_steps c) b
-              ⊎ IsAlong c (continued_run c (ticks c t) (turns_steps c)) (tick_steps c.deal (turns c (ticks c t)).book) b
-              → IsAlong c (round c t) (round_steps c (round c t)) b
+          go : IsIntermediateBook c (ticks c t) (turns_steps c) b
+              ⊎ IsIntermediateBook c (continued_run c (ticks c t) (turns_steps c)) (tick_steps c.deal (turns c (ticks c t)).book) b
+              → IsIntermediateBook c (round c t) (round_steps c (round c t)) b
           go (inl i) = along_more c (round c t) (turns_steps c) (tick_steps c.deal (turns c (round c t)).book) b (turns_way t b far still i)
           go (inr i) =
               along_after c (round c t) (turns_steps c) (tick_steps c.deal (turns c (round c t)).book) b
-              (subst (λ (u : State). IsAlong c u (tick_steps c.deal (turns c (round c t)).book) b) (sym (turns_run c (round c t)))
-              (subst (λ (u : State). IsAlong c u (tick_steps c.deal u.book) b) (sym same)
-              (subst (λ (u : State). IsAlong c u (tick_steps c.deal (turns c (ticks c t)).book) b) (turns_run c (ticks c t)) i)))
+              (subst (λ (u : State). IsIntermediateBook c u (tick_steps c.deal (turns c (round c t)).book) b) (sym (turns_run c (round c t)))
+              (subst (λ (u : State). IsIntermediateBook c u (tick_steps c.deal u.book) b) (sym same)
+              (subst (λ (u : State). IsIntermediateBook c u (tick_steps c.deal (turns c (ticks c t)).book) b) (turns_run c (ticks c t)) i)))
 
-      last_way : (m : ℕ) (b : Histories) → m ≤ n → IsAlong c (ticked m) (round_steps c (ticked m)) b
-          → IsAlong c (rounded m) (round_steps c (rounded m)) b
+      last_way : (m : ℕ) (b : Histories) → m ≤ n → IsIntermediateBook c (ticked m) (round_steps c (ticked m)) b
+          → IsIntermediateBook c (rounded m) (round_steps c (rounded m)) b
       last_way zero b le k = k
       last_way (suc m) b le k =
-          subst (λ (t : State). IsAlong c t (round_steps c t) b) (sym (next_at m (omega (arith, le))))
+          subst (λ (t : State). IsIntermediateBook c t (round_steps c t) b) (sym (next_at m (omega (arith, le))))
           (round_way (ticked m) b (many_at m) (idle m (omega (arith, le))) k)
 
       pub is_skipped : IsSkipped c n s
@@ -248,5 +248,5 @@ module _ (c : Cast) where
   none_skipped s on = record {
     skips = ap (λ (y : Bool). cond y s (round c s)) on;
     pass = λ b k. along_start c s (rounds_steps 1 c s) b (along_none c s b k);
-    last = λ b k. subst (λ (es : List Event). IsAlong c s es b) (ap (λ (y : Bool). cond y [] (round_steps c s)) (sym on)) k;
+    last = λ b k. subst (λ (es : List Event). IsIntermediateBook c s es b) (ap (λ (y : Bool). cond y [] (round_steps c s)) (sym on)) k;
   }

@@ -10,7 +10,7 @@ use Rattle.swap_job.specs.declared.event.Event.TheVariants.{Act}
 use Rattle.swap_run.specs.Run.{Cast, State, conforms, step}
 use Rattle.swap_run.specs.Laws.{IsGood}
 use Rattle.swap_run.specs.Fair.{repeat, looks, acts, most_acts, turn, turns}
-use Rattle.swap_run.specs.Called.{Called, called, told, is_barred, landed_event, apply_step, swept_turn}
+use Rattle.swap_run.specs.Called.{Called, called, called_state, is_barred, landed_event, apply_step, swept_turn}
 use Rattle.swap_run.specs.CalledLaws.{NoneSwept, StepsOnAreGood}
 use Rattle.swap_run.proofs.Good.{steps_are_good}
 use Rattle.swap_run.proofs.Calls.{passed_is_good}
@@ -29,7 +29,7 @@ step_is c s e = go (called c s e)
   where
     go : (o : Option Called) → landed_event (λ a. false) c s e o ≡ step c s e
     go None = refl
-    go (Some x) = ap (λ b. cond b (told c s e x (history s.book x.arc)) (step c s e)) (open_slot (history s.book x.arc) x.call)
+    go (Some x) = ap (λ b. cond b (called_state c s e x (history s.book x.arc)) (step c s e)) (open_slot (history s.book x.arc) x.call)
 
 repeat_same : {A : Type 0} (n : ℕ) (f g : A → A) (x : A) → ((x : A) → f x ≡ g x) → repeat n f x ≡ repeat n g x
 repeat_same zero f g x h = refl
@@ -71,6 +71,6 @@ steps_on_are_good swept c s e ready can g = go (called c s e) refl
     go (Some x) q = at (is_barred (swept x.arc) (history s.book x.arc) x.call) refl
       where
         at : (b : Bool) → is_barred (swept x.arc) (history s.book x.arc) x.call ≡ b
-            → IsGood c (cond b (told c s e x (history s.book x.arc)) (step c s e))
+            → IsGood c (cond b (called_state c s e x (history s.book x.arc)) (step c s e))
         at true w = passed_is_good c s e x ready can g q (barred_swept (swept x.arc) (history s.book x.arc) x.call w)
         at false w = steps_are_good c s e ready can g

@@ -13,7 +13,7 @@ use Rattle.swap_run.specs.Fair.{finish}
 abbrev pub Answers : Type 0
 Answers = ℕ → Option (ℕ × Call)
 
--- the same cast with other answers
+-- the cast with other answers
 abbrev pub with_answers : Cast → Answers → Cast
 with_answers c answers = record c { answers = answers }
 
@@ -28,7 +28,7 @@ RunsAskInOrder =
     (c : Cast) (answers : Answers) (s : State) (events : List Event) → Agree s (continued_run c s events) answers c.answers
     → continued_run (with_answers c answers) s events ≡ continued_run c s events
 
--- and so does a fair finish
+-- a fair finish asks its answers in order and looks at no other
 abbrev pub FinishesAskInOrder : Type 0
 FinishesAskInOrder =
     (c : Cast) (answers : Answers) (s : State) → Agree s (finish c s) answers c.answers → finish (with_answers c answers) s ≡ finish c s
@@ -44,7 +44,7 @@ RunsWithoutStrategies =
     (c : Cast) (answers : Answers) (s : State) (events : List Event) → list_any is_strategy c.roles ≡ false
     → continued_run (with_answers c answers) s events ≡ continued_run c s events
 
--- and so is a fair finish
+-- where no party follows a strategy, a fair finish is the same for all answers
 abbrev pub FinishesWithoutStrategies : Type 0
 FinishesWithoutStrategies =
     (c : Cast) (answers : Answers) (s : State) → list_any is_strategy c.roles ≡ false → finish (with_answers c answers) s ≡ finish c s
@@ -57,14 +57,14 @@ StrategyRule = Deal → Question → Option (ℕ × Call)
 abbrev pub IsByRule : StrategyRule → Cast → State → State → Type 0
 IsByRule rule c s t = (i : ℕ) (q : Question) → length s.asked ≤ i → i < length t.asked → q ≡ slice_index_or t.asked i q → c.answers i ≡ rule c.deal q
 
--- where a rule gives all answers, it decides what a run comes to
+-- where a rule gives all answers, it decides the state after a run
 abbrev pub RulesDecideRuns : Type 0
 RulesDecideRuns =
     (rule : StrategyRule) (c : Cast) (answers : Answers) (s : State) (events : List Event) → IsByRule rule c s (continued_run c s events)
     → IsByRule rule (with_answers c answers) s (continued_run (with_answers c answers) s events)
     → continued_run (with_answers c answers) s events ≡ continued_run c s events
 
--- and what a fair finish comes to
+-- where a rule gives all answers, it decides the state after a fair finish
 abbrev pub RulesDecideFinishes : Type 0
 RulesDecideFinishes =
     (rule : StrategyRule) (c : Cast) (answers : Answers) (s : State) → IsByRule rule c s (finish c s)

@@ -8,7 +8,7 @@ use Rattle.swap_job.specs.Step.{CanStep}
 use Rattle.swap_run.specs.Run.{Cast, State, step}
 use Rattle.swap_run.specs.Fair.{turns}
 use Rattle.swap_run.specs.Laws.{IsReadyCast, IsGood}
-use Rattle.swap_run.specs.Called.{Called, called, before_call, told, is_barred, apply_step, swept_turns}
+use Rattle.swap_run.specs.Called.{Called, called, before_call, called_state, is_barred, apply_step, swept_turns}
 
 -- the event is no tick
 abbrev pub is_no_tick : Event → Bool
@@ -20,7 +20,7 @@ pub record IsSplit (c : Cast) (s : State) (e : Event) : Type 0 where
   -- without a call it is what it does before
   pub alone : called c s e ≡ None → step c s e ≡ before_call c s e
   -- with one its ledger has come to what the call leaves
-  pub calls : (x : Called) → called c s e ≡ Some x → step c s e ≡ told c s e x (after_call c.deal x.arc x.sender x.call (history s.book x.arc))
+  pub calls : (x : Called) → called c s e ≡ Some x → step c s e ≡ called_state c s e x (after_call c.deal x.arc x.sender x.call (history s.book x.arc))
   pub calm : (before_call c s e).book ≡ s.book
 
 abbrev pub CallsSplit : Type 0
@@ -36,7 +36,7 @@ CallsArePlaced =
 abbrev pub PassedIsGood : Type 0
 PassedIsGood =
     (c : Cast) (s : State) (e : Event) (x : Called) → IsReadyCast c → CanStep c.deal c.conforming c.seeds e → IsGood c s → called c s e ≡ Some x
-    → is_barred true (history s.book x.arc) x.call ≡ true → IsGood c (told c s e x (history s.book x.arc))
+    → is_barred true (history s.book x.arc) x.call ≡ true → IsGood c (called_state c s e x (history s.book x.arc))
 
 -- Where slots are swept.
 

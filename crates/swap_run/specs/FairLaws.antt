@@ -34,7 +34,7 @@ FinishesEnd = (c : Cast) (events : List Event) → IsReadyCast c → All (CanSte
 abbrev pub FinishesAreGood : Type 0
 FinishesAreGood = (c : Cast) (s : State) → IsReadyCast c → IsGood c s → IsGood c (finish c s) × IsEnded c.deal (finish c s).book
 
--- and each ledger ends at the first height above the horizon, or where it was
+-- a finish leaves each ledger at the first height above the horizon, or where it was
 abbrev pub FinishHeights : Type 0
 FinishHeights =
     (c : Cast) (s : State) (a : ℕ) → IsReadyCast c → IsGood c s → a < length c.deal.graph.arcs
@@ -65,7 +65,7 @@ OthersRest = (c : Cast) (s : State) (v : ℕ) → conforms c v ≡ false → is_
 abbrev pub TurnsAreGood : Type 0
 TurnsAreGood = (c : Cast) (s : State) (v : ℕ) → IsReadyCast c → IsGood c s → v < c.deal.graph.n → IsGood c (turn c s v)
 
--- and so does a round
+-- a round leaves a good state good
 abbrev pub RoundsAreGood : Type 0
 RoundsAreGood = (c : Cast) (s : State) → IsReadyCast c → IsGood c s → IsGood c (round c s)
 
@@ -75,7 +75,7 @@ RoundsRaise =
     (c : Cast) (s : State) (a : ℕ) → IsReadyCast c → IsGood c s → a < length c.deal.graph.arcs
     → height (history (round c s).book a) ≡ raised c.deal (height (history s.book a))
 
--- so each round leaves one less to do
+-- each round leaves one round less to do
 abbrev pub RoundsCountDown : Type 0
 RoundsCountDown =
     (c : Cast) (s : State) → IsReadyCast c → IsGood c s → is_above_horizon c.deal s.book ≡ false
@@ -85,6 +85,6 @@ RoundsCountDown =
 abbrev pub FinishStops : Type 0
 FinishStops = (c : Cast) (s : State) → is_above_horizon c.deal s.book ≡ true → finish c s ≡ s
 
--- and else it is a round and a finish
+-- a finish of a book that hasn't ended is a round and a finish
 abbrev pub FinishContinues : Type 0
 FinishContinues = (c : Cast) (s : State) → IsReadyCast c → IsGood c s → is_above_horizon c.deal s.book ≡ false → finish c (round c s) ≡ finish c s

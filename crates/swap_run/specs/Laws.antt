@@ -60,7 +60,7 @@ pub record IsGood (c : Cast) (s : State) : Type 0 where
 abbrev pub StartIsGood : Type 0
 StartIsGood = (c : Cast) → IsReadyCast c → IsGood c (start c)
 
--- and each event leaves it so
+-- each event leaves a good state good
 abbrev pub StepsAreGood : Type 0
 StepsAreGood = (c : Cast) (s : State) (e : Event) → IsReadyCast c → CanStep c.deal c.conforming c.seeds e → IsGood c s → IsGood c (step c s e)
 

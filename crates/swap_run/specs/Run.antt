@@ -153,7 +153,7 @@ take_call c s v (Some x) =
     let h = after_call c.deal x.0 v x.1 (history s.book x.0) in
     record s { book = slice_set s.book x.0 h; plans = plans_seen c s v x.0 h }
 
--- v has acted once more, and these moves are left of its script
+-- the state after a turn of v that leaves these moves of its script
 abbrev pub after_turn : State → ℕ → List Move → State
 after_turn s v moves = record s { plans = slice_set s.plans v (record (party_plan s v) { moves = moves; turns = (party_plan s v).turns + 1 }) }
 

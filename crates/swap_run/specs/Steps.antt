@@ -12,7 +12,7 @@ use Rattle.swap_run.specs.Fair.{repeat, adjacent_arcs, most_acts, turns, the_hor
 use Rattle.swap_run.specs.Quiet.{SkipsQuietRounds}
 
 -- The histories b are those after the first `count` of these events.
-pub record IsAlong (c : Cast) (s : State) (events : List Event) (b : Histories) : Type 0 where
+pub record IsIntermediateBook (c : Cast) (s : State) (events : List Event) (b : Histories) : Type 0 where
   pub count : ℕ
   pub few : count ≤ length events
   pub book : b ≡ (continued_run c s (take count events)).book
@@ -42,7 +42,8 @@ low_step d b a = if nat_le (height (history b a)) (the_horizon d) then Tick a 1 
 abbrev pub after_low : Deal → Histories → ℕ → Histories
 after_low d b a = if nat_le (height (history b a)) (the_horizon d) then slice_set b a (after_tick 1 (history b a)) else b
 
--- the same of each of these arcs, one after another
+-- a tick by 1 of the ledger of each of these arcs, one after another, where it isn't above the
+-- horizon
 abbrev pub low_steps : Deal → Histories → List ℕ → List Event
 low_steps d b [] = []
 low_steps d b (a ∷ more) = low_step d b a ++ low_steps d (after_low d b a) more
@@ -81,5 +82,5 @@ pass_steps (suc n) c s = pass_steps n c s ++ tick_steps c.deal (repeat n (ticks 
 -- histories than those of the rounds.
 pub record IsSkipped (c : Cast) (n : ℕ) (s : State) : Type 0 where
   pub skips : SkipsQuietRounds c n s
-  pub pass : (b : Histories) → IsAlong c s (pass_steps n c s) b → IsAlong c s (rounds_steps (suc n) c s) b
-  pub last : (b : Histories) → IsAlong c (repeat n (ticks c) s) (round_steps c (repeat n (ticks c) s)) b → IsAlong c s (rounds_steps (suc n) c s) b
+  pub pass : (b : Histories) → IsIntermediateBook c s (pass_steps n c s) b → IsIntermediateBook c s (rounds_steps (suc n) c s) b
+  pub last : (b : Histories) → IsIntermediateBook c (repeat n (ticks c) s) (round_steps c (repeat n (ticks c) s)) b → IsIntermediateBook c s (rounds_steps (suc n) c s) b

@@ -83,8 +83,8 @@ impl Planner {
         self.known.histories.as_slice()[arc as usize].len()
     }
 
-    /// The next call of the party's script, if any. The party has acted once more; after want of
-    /// memory everything is as it was.
+    /// The next call of the party's script, if any. The turn is counted; after want of memory
+    /// everything is as it was.
     pub fn follow(
         &mut self,
         deal: &Deal,
@@ -105,8 +105,8 @@ impl Planner {
         Ok(call)
     }
 
-    /// The call that the party's strategy answers, if any. The party has acted once more; after
-    /// want of memory everything is as it was.
+    /// The call that the party's strategy answers, if any. The turn is counted; after want of
+    /// memory everything is as it was.
     pub fn ask<A: Strategies>(
         &mut self,
         strategies: &A,

@@ -94,7 +94,7 @@ module _ {gives : MayGive} {d : Deal} {conforming : List Bool} {seeds : Seeds} {
       ∙ (e (length os) (omega arith)
       ∙ (ap (λ (x : List (Option (ℕ × Call))). get_or x (length os) None) k.answer ∙ get_or_at os o [] None (length os) refl))
 
-  -- what the act comes to, with any answers that go on so
+  -- the state after the act, with any answers that go on so
   stepped : (g : Answers) → Follows g → (new : Plan) (b : Histories) → b ≡ taken sw d p o (histories ls)
       → new ≡ seen sw d p o (histories ls) (asked_once n) → state d after (set xs p (Planned new)) b ≡ apply_step sw (with_answers c g) s (Act p)
   stepped g e new b eb en =

@@ -52,11 +52,11 @@ pub record IsSigned (d : Deal) (v : ℕ) (b : Histories) (signed : List (Option 
   pub calls : (a : ℕ) (past : List Entry) (e : Entry) (key : Hashkey) → IsMoment (history b a) past e → pick_call v e ≡ Some (Unlock key)
       → signed_hashkey signed key.lock ≡ Some key
 
--- the same of each machine
+-- each machine has signed what its party's unlock calls carry
 abbrev pub HaveSigned : Deal → Histories → List Actor → Type 0
 HaveSigned d b xs = (v : ℕ) (m : MachineState) → v < length xs → Conforming m ≡ get_or xs v (Conforming m) → IsSigned d v b m.signed
 
--- and of each but that of party p
+-- each machine but that of party p has signed what its party's unlock calls carry
 abbrev pub OthersSigned : Deal → Histories → List Actor → ℕ → Type 0
 OthersSigned d b xs p =
     (v : ℕ) (m : MachineState) → v ≢ p → v < length xs → Conforming m ≡ get_or xs v (Conforming m) → IsSigned d v b m.signed
@@ -92,7 +92,7 @@ exact_between signed shown h same shows = record {
   stays = λ i key e. e;
 }
 
--- the same, of which some was signed since
+-- a disk that has just what is signed, where some was signed since the calls
 pub signed_between : (before after shown : List (Option Hashkey)) (h : Held) → length after ≡ length before
     → ((i : ℕ) (key : Hashkey) → signed_hashkey before i ≡ Some key → signed_hashkey after i ≡ Some key) → shown ≡ after → ShowsAll shown h → IsDiskDuringSigning before after h
 signed_between before after shown h places stays same shows = record {
@@ -101,7 +101,7 @@ signed_between before after shown h places stays same shows = record {
   stays = stays;
 }
 
--- a disk of which a crash leaves nothing new
+-- a disk whose crash leaves nothing new
 pub unwritten_between : (before after shown : List (Option Hashkey)) (h h' : Held) → length after ≡ length before
     → ((i : ℕ) (key : Hashkey) → signed_hashkey before i ≡ Some key → signed_hashkey after i ≡ Some key) → shown ≡ before → ShowsAll shown h
     → ((c : List ℕ) → Leaves h' c → Leaves h c) → IsDiskDuringSigning before after h'

@@ -80,7 +80,7 @@ unfolding turn
 turn_acts c s v true e = ap (λ (b : Bool). cond b (acts c v (most_acts c.deal) (looks c v s)) (step c (looks c v s) (Act v))) e
 turn_acts c s v false e = ap (λ (b : Bool). cond b (acts c v (most_acts c.deal) (looks c v s)) (step c (looks c v s) (Act v))) e
 
--- and the steps of it
+-- the steps of how a party acts in its turn
 abbrev pub acts_steps : Bool → Deal → ℕ → List Event
 acts_steps true d v = replicate (most_acts d) (Act v)
 acts_steps false d v = Act v ∷ []
@@ -186,7 +186,7 @@ is_round c s e = ap (λ (b : Bool). cond b s (round c s)) e
 pub is_rest : (c : Cast) (s : State) → is_above_horizon c.deal s.book ≡ true → round_unless_ended c s ≡ s
 is_rest c s e = ap (λ (b : Bool). cond b s (round c s)) e
 
--- Rounds of which only the ticks are taken, and one more.
+-- Rounds that only take their ticks, and a round after them.
 module _ (gives : MayGive) (old mid new : WorldState) (n : ℕ) (skips : (g : Answers) → IsSkipped (answering_cast old g) n old.state) where
   are_rounds : (g : Answers) → round (answering_cast old g) (repeat n (ticks (answering_cast old g)) old.state)
       ≡ repeat (n + 1) (round_unless_ended (answering_cast old g)) old.state

@@ -18,7 +18,7 @@ use Rattle.swap_rules.specs.Due.{Action}
 use Rattle.swap_run.specs.Asked.{Answers, with_answers, is_strategy}
 use Rattle.swap_run.specs.Run.{Cast, Question, State, conforms, party_role, party_plan, look, next_action, watch, after_turn, continued_run, step}
 use Rattle.swap_run.specs.Called.{Called, by_due, role_call, apply_step}
-use Rattle.swap_run.specs.Steps.{IsAlong}
+use Rattle.swap_run.specs.Steps.{IsIntermediateBook}
 use Rattle.swap_run.proofs.Along.{along_start, along_more, along_after, along_step}
 use Rattle.swap_world.specs.Cast.{asks}
 use Rattle.swap_world.specs.Value.{WorldState, world_cast, answering_cast, Continues}
@@ -122,7 +122,7 @@ module _ (gives : MayGive) where
     stopped = k.stopped;
     cast = k.cast;
     asked = k.asked;
-    book = λ g x. subst (λ (es : List Event). IsAlong (answering_cast old g) old.state es new.state.book) (same g) (k.book g x);
+    book = λ g x. subst (λ (es : List Event). IsIntermediateBook (answering_cast old g) old.state es new.state.book) (same g) (k.book g x);
   }
 
   -- on the way along steps after which others come
@@ -136,11 +136,11 @@ module _ (gives : MayGive) where
 
   -- on the way from another world, to which the old one went
   pub way_from : (f : Cast → State → State) (e : Cast → State → List Event) (old mid new : WorldState) (g : Answers) → HasGone gives f old mid
-      → HasAsked gives mid new → Continues new g → IsAlong (answering_cast mid g) mid.state (e (answering_cast mid g) mid.state) new.state.book
-      → IsAlong (answering_cast old g) (f (answering_cast old g) old.state) (e (answering_cast old g) (f (answering_cast old g) old.state)) new.state.book
+      → HasAsked gives mid new → Continues new g → IsIntermediateBook (answering_cast mid g) mid.state (e (answering_cast mid g) mid.state) new.state.book
+      → IsIntermediateBook (answering_cast old g) (f (answering_cast old g) old.state) (e (answering_cast old g) (f (answering_cast old g) old.state)) new.state.book
   way_from f e old mid new g a more k way =
-      subst (λ (s : State). IsAlong (answering_cast old g) s (e (answering_cast old g) s) new.state.book) (a.state g (continues_less gives mid new g more k))
-      (subst (λ (c : Cast). IsAlong c mid.state (e c mid.state) new.state.book) (for_gone f old mid g a) way)
+      subst (λ (s : State). IsIntermediateBook (answering_cast old g) s (e (answering_cast old g) s) new.state.book) (a.state g (continues_less gives mid new g more k))
+      (subst (λ (c : Cast). IsIntermediateBook c mid.state (e c mid.state) new.state.book) (for_gone f old mid g a) way)
 
   pub stopped_after : (f : Cast → State → State) (d e : Cast → State → List Event) (old mid new : WorldState) → HasGone gives f old mid
       → ((g : Answers) → continued_run (answering_cast old g) old.state (d (answering_cast old g) old.state) ≡ f (answering_cast old g) old.state)
@@ -152,7 +152,7 @@ module _ (gives : MayGive) where
     asked = more_asked gives old mid new a.asked (deal_gone f old mid a) k.asked;
     book = λ g x. let c = answering_cast old g in
         along_after c old.state (d c old.state) (e c (f c old.state)) new.state.book
-        (subst (λ (t : State). IsAlong c t (e c (f c old.state)) new.state.book) (sym (runs g)) (way_from f e old mid new g a k.asked x (k.book g x)));
+        (subst (λ (t : State). IsIntermediateBook c t (e c (f c old.state)) new.state.book) (sym (runs g)) (way_from f e old mid new g a k.asked x (k.book g x)));
   }
 
   -- in an event that wanted memory
@@ -256,7 +256,7 @@ quiet_act sw c s v alone =
       asked = ap (λ (t : State). t.asked) (act_is sw c s v) ∙ k.asked;
     }
 
--- and so in a run
+-- an act of a party that asks no strategy is quiet in a run
 pub quiet_run : (c : Cast) (s : State) (v : ℕ) → asks c v ≡ false → IsQuiet (λ c s. step c s (Act v)) c s
 quiet_run c s v alone = subst (λ (f : Cast → State → State). IsQuiet f c s) (plainly (Act v)) (quiet_act (λ a. false) c s v alone)
 
@@ -306,7 +306,7 @@ conforming_alone : (c : Cast) (v : ℕ) (b : Bool) → b ≡ true → cond b fal
 conforming_alone c v true e = refl
 conforming_alone c v false e = absurd (cc e)
 
--- and so of one that conforms
+-- who conforms asks no strategy
 pub alone_conforming : (c : Cast) (v : ℕ) → conforms c v ≡ true → asks c v ≡ false
 alone_conforming c v e = conforming_alone c v (conforms c v) e
 
@@ -334,7 +334,7 @@ pub went : {A E : Type 0} (r : Result A E) (gives : MayGive) (f : Cast → State
 went (Ok x) gives f old new quiet is = went_to gives f old new quiet is
 went (Err x) gives f old new quiet is = tt
 
--- and one in which memory ran out, with nothing changed
+-- a quiet event in which memory ran out, with nothing changed
 pub unmoved : {A E : Type 0} (r : Result A E) (gives : MayGive) (f : Cast → State → State) (old new : WorldState) → OnErr r (new ≡ old)
     → OnErr r (IsCutMidway gives f old new)
 unmoved (Ok x) gives f old new is = tt
@@ -344,7 +344,7 @@ unmoved (Err x) gives f old new is = record {
   book = inl (ap (λ (w : WorldState). w.state.book) is);
 }
 
--- or after the call
+-- a quiet event in which memory ran out, before the call or after it
 pub cut_to : (gives : MayGive) (f : Cast → State → State) (old new : WorldState) → IsQuiet f (world_cast old) old.state → world_cast new ≡ world_cast old
     → new.state.asked ≡ old.state.asked → new.answers ≡ old.answers
     → (new.state.book ≡ old.state.book) ⊎ (new.state.book ≡ (f (world_cast old) old.state).book) → IsCutMidway gives f old new

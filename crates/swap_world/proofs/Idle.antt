@@ -225,7 +225,7 @@ module _ (d : Deal) (conforming : List Bool) (seeds : List (Option (List ℕ))) 
 raised_by : (n : ℕ) (h after : List Entry) → Risen n h after → IsRaised n h after
 raised_by n h after r = record { more = r.more; ticks = r.ticks; is = r.is; high = r.high }
 
--- such rounds, and one more, where a ledger stays low
+-- rounds in which nobody acts, and one more round, where a ledger stays low
 pub skips : (c : Cast) (n : ℕ) (s : State) (g : Answers) → IsReadyCast c → IsGood c s → is_above_horizon c.deal s.book ≡ false
     → (0 < n → 0 < length c.deal.graph.arcs) → (0 < n → height (history s.book 0) + n ≤ the_horizon c.deal) → (0 < n → IsQuietState c n s)
     → IsSkipped (with_answers c g) n s

@@ -9,7 +9,7 @@ use Rattle.swap_run.specs.Asked.{Answers}
 use Rattle.swap_run.specs.Run.{Cast, State, continued_run, step}
 use Rattle.swap_run.specs.Fair.{repeat}
 use Rattle.ledger_core.specs.Book.{Histories}
-use Rattle.swap_run.specs.Steps.{IsAlong}
+use Rattle.swap_run.specs.Steps.{IsIntermediateBook}
 use Rattle.swap_run.proofs.Repeats.{repeat_one, rest_more}
 use Rattle.swap_world.specs.Value.{WorldState, answering_cast, Continues}
 use Rattle.swap_world.specs.Gone.{MayGive, HasGone, IsCutInEvent}
@@ -75,9 +75,9 @@ module _ (gives : MayGive) (f : Cast → State → State) (old mid new : WorldSt
       (λ g. sym (repeat_one k (f (answering_cast old g)) old.state)) (gone_then gives (λ c s. repeat k (f c) s) f old mid new so_far h)
 
   pub repeat_stops : (e d : Cast → State → List Event)
-      → ((g : Answers) (b : Histories) → IsAlong (answering_cast old g) (repeat k (f (answering_cast old g)) old.state)
+      → ((g : Answers) (b : Histories) → IsIntermediateBook (answering_cast old g) (repeat k (f (answering_cast old g)) old.state)
       (e (answering_cast old g) (repeat k (f (answering_cast old g)) old.state)) b
-      → IsAlong (answering_cast old g) old.state (d (answering_cast old g) old.state) b)
+      → IsIntermediateBook (answering_cast old g) old.state (d (answering_cast old g) old.state) b)
       → IsStopped gives e mid new → IsStopped gives d old new
   repeat_stops e d within h = record {
     stopped = h.stopped;

@@ -18,7 +18,7 @@ use Rattle.swap_rules.proofs.Prefixes.{begins_refl}
 use Rattle.swap_rules.specs.Due.{Action}
 use Rattle.swap_run.specs.Run.{Cast, State, conforms, party_role, state_notes, party_plan, signed_through_call, plans_seen, next_action, after_turn, after_question}
 use Rattle.swap_run.specs.Run.{answered_call, step}
-use Rattle.swap_run.specs.Called.{Called, sender_call, by_due, called, role_call, role_turn, before_call, is_due_act, noted_state, planned_state, told, is_barred}
+use Rattle.swap_run.specs.Called.{Called, sender_call, by_due, called, role_call, role_turn, before_call, is_due_act, noted_state, planned_state, called_state, is_barred}
 use Rattle.swap_run.specs.Called.{landed_event, apply_step}
 use Rattle.swap_run.specs.CalledLaws.{is_no_tick}
 use Rattle.swap_run.proofs.Calls.{calls_split}
@@ -51,7 +51,7 @@ pub landed_called : (w : Bool) (d : Deal) (a p : ℕ) (c : Call) (old new : Ledg
 landed_called w d a p c old new k e =
     e ∙ ap (λ (x : Deal). landed w x old.arc p c old.history) k.deal ∙ ap (λ (x : ℕ). landed w d x p c old.history) k.arc
 
--- and what its party is told
+-- what the party of a call is told
 pub told_called : (w : Bool) (d : Deal) (a p : ℕ) (c : Call) (old : LedgerState) (t : Told) → IsArcLedger d a old
     → t ≡ call_told w old.deal old.arc p c old.history → t ≡ call_told w d a p c old.history
 told_called w d a p c old t k e =
@@ -96,11 +96,11 @@ module _ (sw : ℕ → Bool) (c : Cast) (s : State) where
 
   -- with one, whether it is barred or not
   call_on : (e : Event) (x : Called) → is_no_tick e ≡ true → called c s e ≡ Some x
-      → apply_step sw c s e ≡ told c s e x (landed (sw x.arc) c.deal x.arc x.sender x.call (history s.book x.arc))
+      → apply_step sw c s e ≡ called_state c s e x (landed (sw x.arc) c.deal x.arc x.sender x.call (history s.book x.arc))
   call_on e x calm q = ap (landed_event sw c s e) q ∙ go (is_barred (sw x.arc) (history s.book x.arc) x.call)
     where
-      go : (b : Bool) → cond b (told c s e x (history s.book x.arc)) (step c s e)
-          ≡ told c s e x (cond b (history s.book x.arc) (after_call c.deal x.arc x.sender x.call (history s.book x.arc)))
+      go : (b : Bool) → cond b (called_state c s e x (history s.book x.arc)) (step c s e)
+          ≡ called_state c s e x (cond b (history s.book x.arc) (after_call c.deal x.arc x.sender x.call (history s.book x.arc)))
       go true = refl
       go false = (calls_split c s e calm).calls x q
 

@@ -162,7 +162,7 @@ module _ (k : ℕ) (c : Cast) where
   ticked_state s [] = refl
   ticked_state s (a ∷ on) = ticked_state (step c s (Tick a k)) on
 
-  -- and leave a good state good
+  -- ticks leave a good state good
   pub ticked_good : (s : State) (on : List ℕ) → 1 ≤ k → k ≤ 1000000 → All (λ a. a < length c.deal.graph.arcs) on → IsReadyCast c → IsGood c s
       → IsGood c (tick_arcs on k c s)
   ticked_good s [] some few low ready g = g

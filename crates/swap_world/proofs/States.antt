@@ -91,7 +91,7 @@ module _ (d : Deal) (conforming : List Bool) (seeds : List (Option (List ℕ))) 
   where_it_conforms : (p : ℕ) (t u : State) → slice_index_or conforming p false ≡ true → t ≡ cond (conforms c p) t u
   where_it_conforms p t u e = sym (ap (λ (b : Bool). cond b t u) e)
 
-  -- the same actor in its place
+  -- the state is the same with the same actor in its place
   pub same_actor : (p : ℕ) (x y : Actor) (b : Histories) → x ≡ get_or xs p x → y ≡ x → replaced p y b ≡ state d qs xs b
   same_actor p x y b here e =
       ap (λ (z : Actor). replaced p z b) e ∙ ap (λ (ys : List Actor). state d qs ys b) (ap (λ (z : Actor). set xs p z) here ∙ set-get_or xs p x)

@@ -14,7 +14,7 @@ use Rattle.swap_job.specs.declared.event.Event.{Event}
 use Rattle.swap_job.specs.declared.event.Event.TheVariants.{Tick, Look, Act}
 use Rattle.swap_run.specs.Run.{Cast, State, continued_run, step}
 use Rattle.swap_run.specs.Fair.{repeat, acts, the_horizon, tick_low, ticks, turn}
-use Rattle.swap_run.specs.Steps.{after_low, low_step, low_steps, pass_steps, tick_steps, turn_steps, IsAlong}
+use Rattle.swap_run.specs.Steps.{after_low, low_step, low_steps, pass_steps, tick_steps, turn_steps, IsIntermediateBook}
 use Rattle.swap_run.proofs.Along.{along_more, along_after, acts_run, pass_run}
 use Rattle.swap_rules.proofs.Prefixes.{same_or_not}
 use Rattle.swap_world.specs.Value.{WorldState}
@@ -71,12 +71,12 @@ over f e s (x ∷ xs) = e s x ++ over f e (f s x) xs
 module _ (c : Cast) {B : Type 0} (f : State → B → State) (e : State → B → List Event) (runs : (s : State) (x : B) → continued_run c s (e s x) ≡ f s x) where
   -- what is on the way of one of them is on the way of all
   pub along_over : (xs : List B) (k : ℕ) (x : B) (s : State) (b : Histories) → k < length xs → x ≡ get_or xs k x
-      → IsAlong c (fold f s (take k xs)) (e (fold f s (take k xs)) x) b → IsAlong c s (over f e s xs) b
+      → IsIntermediateBook c (fold f s (take k xs)) (e (fold f s (take k xs)) x) b → IsIntermediateBook c s (over f e s xs) b
   along_over [] k x s b l is w = absurd (omega (arith, l))
   along_over (y ∷ xs) zero x s b l is w =
-      along_more c s (e s y) (over f e (f s y) xs) b (subst (λ (z : B). IsAlong c s (e s z) b) is w)
+      along_more c s (e s y) (over f e (f s y) xs) b (subst (λ (z : B). IsIntermediateBook c s (e s z) b) is w)
   along_over (y ∷ xs) (suc k) x s b l is w =
-      along_after c s (e s y) (over f e (f s y) xs) b (subst (λ (t : State). IsAlong c t (over f e (f s y) xs) b) (sym (runs s y))
+      along_after c s (e s y) (over f e (f s y) xs) b (subst (λ (t : State). IsIntermediateBook c t (over f e (f s y) xs) b) (sym (runs s y))
       (along_over xs k x (f s y) b (omega (arith, l)) is w))
 
 module _ (c : Cast) where
@@ -113,30 +113,30 @@ module _ (c : Cast) where
       ∙ ap (λ (b : Histories). low_steps c.deal b js) (low_book s a))
 
   -- on the way of act k of m acts
-  pub along_acts : (m k v : ℕ) (s : State) (b : Histories) → k < m → IsAlong c (acts c v k s) (Act v ∷ []) b → IsAlong c s (replicate m (Act v)) b
+  pub along_acts : (m k v : ℕ) (s : State) (b : Histories) → k < m → IsIntermediateBook c (acts c v k s) (Act v ∷ []) b → IsIntermediateBook c s (replicate m (Act v)) b
   along_acts m k v s b l w =
       let e : k + (1 + (m - (k + 1))) ≡ m = omega (arith, l) in
       let rest = replicate (m - (k + 1)) (Act v) in
-      subst (λ (es : List Event). IsAlong c s es b)
+      subst (λ (es : List Event). IsIntermediateBook c s es b)
       (ap (λ (es : List Event). replicate k (Act v) ++ es) (replicate-append-replicate 1 (m - (k + 1)) (Act v))
       ∙ replicate-append-replicate k (1 + (m - (k + 1))) (Act v) ∙ ap (λ i. replicate i (Act v)) e)
       (along_after c s (replicate k (Act v)) (replicate 1 (Act v) ++ rest) b
-      (subst (λ (t : State). IsAlong c t (replicate 1 (Act v) ++ rest) b) (sym (acts_run c k v s))
+      (subst (λ (t : State). IsIntermediateBook c t (replicate 1 (Act v) ++ rest) b) (sym (acts_run c k v s))
       (along_more c (acts c v k s) (replicate 1 (Act v)) rest b w)))
 
   -- on the way of the ticks of round k of m rounds
-  pub along_pass : (m k : ℕ) (s : State) (b : Histories) → k < m → IsAlong c (repeat k (ticks c) s) (tick_steps c.deal (repeat k (ticks c) s).book) b
-      → IsAlong c s (pass_steps m c s) b
+  pub along_pass : (m k : ℕ) (s : State) (b : Histories) → k < m → IsIntermediateBook c (repeat k (ticks c) s) (tick_steps c.deal (repeat k (ticks c) s).book) b
+      → IsIntermediateBook c s (pass_steps m c s) b
   along_pass zero k s b l w = absurd (omega (arith, l))
   along_pass (suc m) k s b l w = go (same_or_not k m) (λ lt. along_pass m k s b lt w)
     where
       last : List Event
       last = tick_steps c.deal (repeat m (ticks c) s).book
 
-      go : (k ≡ m) ⊎ (k ≢ m) → (k < m → IsAlong c s (pass_steps m c s) b) → IsAlong c s (pass_steps (suc m) c s) b
+      go : (k ≡ m) ⊎ (k ≢ m) → (k < m → IsIntermediateBook c s (pass_steps m c s) b) → IsIntermediateBook c s (pass_steps (suc m) c s) b
       go (inl e) rest =
-          along_after c s (pass_steps m c s) last b (subst (λ (t : State). IsAlong c t last b) (sym (pass_run c m s))
-          (subst (λ i. IsAlong c (repeat i (ticks c) s) (tick_steps c.deal (repeat i (ticks c) s).book) b) e w))
+          along_after c s (pass_steps m c s) last b (subst (λ (t : State). IsIntermediateBook c t last b) (sym (pass_run c m s))
+          (subst (λ i. IsIntermediateBook c (repeat i (ticks c) s) (tick_steps c.deal (repeat i (ticks c) s).book) b) e w))
       go (inr apart) rest = let q : ◌≢◌ {A = ℕ} k m = apart in along_more c s (pass_steps m c s) last b (rest (omega (arith, l, q)))
 
 -- Worlds.

@@ -59,7 +59,7 @@ world d conforming seeds roles answers stopped st = record {
 pub found : (xs : List Actor) (p : ℕ) (x : Actor) (m : MachineState) → x ≡ Conforming m → x ≡ get_or xs p x → Conforming m ≡ get_or xs p (Conforming m)
 found xs p x m e h = subst (λ y. y ≡ get_or xs p y) e h
 
--- or one that follows a script or a strategy
+-- an actor that was found is one that follows a script or a strategy
 pub found_plan : (xs : List Actor) (p : ℕ) (x : Actor) (n : Plan) → x ≡ Planned n → x ≡ get_or xs p x → Planned n ≡ get_or xs p (Planned n)
 found_plan xs p x n e h = subst (λ y. y ≡ get_or xs p y) e h
 
@@ -164,7 +164,7 @@ module _ (c : Cast) (g : Answers) where
       → IsKept c (apply_step sw (with_answers c g) s e).book
   kept_step sw s e ready can k = good_is_kept c (apply_step sw (with_answers c g) s e) ready (good_step sw s e ready can k)
 
--- the same of a world after a step
+-- the book of a world stays kept by a step, also where the step was cut short
 pub collect_kept : {A E : Type 0} (r : Result A E) (gives : MayGive) (sw : ℕ → Bool) (old new : WorldState) (e : Event)
     → OnOk r (HasGone gives (λ c s. apply_step sw c s e) old new)
     → OnErr r (IsCutWithSweeps gives sw e old new) → IsReadyCast (world_cast old) → CanStep old.deal old.conforming old.seeds e → IsGood (world_cast old) old.state
@@ -195,7 +195,8 @@ reached_kept c s t ready g r = good_is_kept c t ready (subst (IsGood c) (sym r.s
 reached_kept_for : (c : Cast) (g : Answers) (s t : State) → IsReadyCast c → IsGood c s → IsReached (with_answers c g) s t → IsKept c t.book
 reached_kept_for c g s t ready k r = kept_of_any c g t.book (reached_kept (with_answers c g) s t (ready_for c g ready) (good_for c g s k) r)
 
--- the same of a world that went where f leads, or stopped on the way along steps that can be taken
+-- the book of a world stays kept where the world went where f leads, or stopped on the way along
+-- steps that can be taken
 pub kept_to : {A E : Type 0} (r : Result A E) (gives : MayGive) (f : Cast → State → State) (e : Cast → State → List Event) (old new : WorldState)
     → OnOk r (HasGone gives f old new) → OnErr r (IsStopped gives e old new)
     → ((g : Answers) → IsReached (answering_cast old g) old.state (f (answering_cast old g) old.state))

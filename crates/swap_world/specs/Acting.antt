@@ -76,7 +76,7 @@ abbrev pub party_told : (ℕ → Bool) → Deal → ℕ → Option (ℕ × Call)
 party_told swept d v None b = Nothing
 party_told swept d v (Some x) b = call_told (swept x.0) d x.0 v x.1 (history b x.0)
 
--- the plan of a party that has asked its strategy once more
+-- the plan of a party after a turn in which it asked its strategy
 abbrev pub asked_once : Plan → Plan
 asked_once n = record n { turns = n.turns + 1 }
 
@@ -84,7 +84,7 @@ asked_once n = record n { turns = n.turns + 1 }
 abbrev pub answer_question : List ℕ → ℕ → Plan → Question
 answer_question name v n = record { strategy = name; party = v; turn = n.turns; known = n.known }
 
--- the plan of a party that has acted once more by its script
+-- the plan of a party after a turn by its script
 abbrev pub turned : Plan → Plan
 turned n = record n { moves = moves_left n.known n.moves; turns = n.turns + 1 }
 

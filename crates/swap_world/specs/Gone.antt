@@ -1,4 +1,4 @@
--- What a world comes to, and what strategies are asked and answer on the way.
+-- The state that a world reaches, and what strategies are asked and answer on the way.
 use Rattle.std.specs.Prelude.{◌≡◌, ℕ, ◌++◌, ◌⊎◌, List, map, Option}
 use Rattle.std.specs.List.{All}
 use Rattle.swap_digraph.specs.declared.deal.Deal.{Deal}

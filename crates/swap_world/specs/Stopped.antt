@@ -2,7 +2,7 @@
 use Rattle.std.specs.Prelude.{◌≡◌, ◌<◌, ◌≤◌, ℕ, true, List, length, take}
 use Rattle.swap_job.specs.declared.event.Event.{Event}
 use Rattle.swap_run.specs.Run.{Cast, State, conforms, continued_run}
-use Rattle.swap_run.specs.Steps.{IsAlong}
+use Rattle.swap_run.specs.Steps.{IsIntermediateBook}
 use Rattle.swap_run.specs.Asked.{Answers}
 use Rattle.swap_world.specs.Value.{WorldState, world_cast, answering_cast, Continues}
 use Rattle.swap_world.specs.Gone.{MayGive, HasAsked}
@@ -13,7 +13,7 @@ pub record IsStopped (gives : MayGive) (steps : Cast → State → List Event) (
   pub stopped : new.stopped ≡ true
   pub cast : world_cast new ≡ world_cast old
   pub asked : HasAsked gives old new
-  pub book : (g : Answers) → Continues new g → IsAlong (answering_cast old g) old.state (steps (answering_cast old g) old.state) new.state.book
+  pub book : (g : Answers) → Continues new g → IsIntermediateBook (answering_cast old g) old.state (steps (answering_cast old g) old.state) new.state.book
 
 -- The histories are those after the first `count` of these events, whatever strategies would have
 -- answered later.

@@ -171,7 +171,7 @@ fn round<A: Strategies>(
     ticks(world, strategies)
 }
 
-/// So many ticks of each ledger that isn't above the horizon.
+/// Takes this many ticks of each ledger that isn't above the horizon.
 fn pass<A: Strategies>(world: &mut World, strategies: &A, count: u64) -> Result<(), NoMemory>
     requires held { AreHeld (A.holds strategies.now) world.old.roles }
     ensures ok { OnOk result (HasGone (A.gives strategies.now) (λ c s. repeat count (ticks c) s) world.old world.new) }

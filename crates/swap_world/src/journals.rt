@@ -115,7 +115,7 @@ fn restart(
 }
 
 /// Lets a machine that knows nothing of an arc know its ledger to its end, where that touches it.
-fn learn_near(
+fn learn_if_adjacent(
     machine: &mut Machine,
     deal: &Deal,
     ledgers: &[Ledger],
@@ -149,7 +149,7 @@ fn relearn(machine: &mut Machine, deal: &Deal, ledgers: &[Ledger]) -> Result<(),
     ensures signed { machine.new.signed ≡ machine.old.signed }
 {
     'arcs: for arc in 0..deal.graph.arcs().len() as ArcId {
-        learn_near(machine, deal, ledgers, arc)?;
+        learn_if_adjacent(machine, deal, ledgers, arc)?;
     }
     Ok(())
 }

@@ -11,7 +11,7 @@ use swap_base::{ArcId, Listed, NoMemory, PartyId};
 use swap_digraph::Deal;
 
 /// The arcs that touch a party, ascending.
-fn arcs_near(alloc: Global, deal: &Deal, p: PartyId) -> Result<Listed<ArcId>, NoMemory>
+fn adjacent_arcs(alloc: Global, deal: &Deal, p: PartyId) -> Result<Listed<ArcId>, NoMemory>
     requires { IsWellSized deal.now }
     ensures { IfOk result (λ l. l ≡ adjacent_arcs deal.now p) }
 {
@@ -31,7 +31,7 @@ pub fn arcs_by_party(alloc: Global, deal: &Deal) -> Result<Vec<Listed<ArcId>>, N
 {
     let mut all = Vec::new(alloc);
     'parties: for p in 0..deal.graph.n() {
-        all.push(arcs_near(alloc, deal, p)?)?;
+        all.push(adjacent_arcs(alloc, deal, p)?)?;
     }
     Ok(all)
 }

@@ -205,7 +205,7 @@ pub(crate) fn fresh_ticks(ledger: &Ledger, seen: u32) -> Option<Run>
     }
 }
 
-/// The same by a copy of what is fresh, whatever that is.
+/// Learns the entries from `seen` on by a copy of them, whatever they are.
 fn learn_copied<L: Counted>(
     machine: &mut Machine,
     ledger: &Ledger,

@@ -706,7 +706,8 @@ impl World {
         ensures only { (i : ℕ) (key : Hashkey) → i < length self.now.deal.leaders → (c : List ℕ) → Leaves result.now.held c
             → recorded c i ≡ Some key → signed_hashkey (state_notes self.now.state p).signed i ≡ Some key }
 
-        // And just those that it signed, unless memory ran out between signing and recording.
+        // It leaves all those recorded that the party signed, unless memory ran out between signing
+        // and recording.
         ensures durable { self.now.stopped ≡ false → (i : ℕ) → i < length self.now.deal.leaders → (c : List ℕ) → Leaves result.now.held c
             → recorded c i ≡ signed_hashkey (state_notes self.now.state p).signed i }
     {

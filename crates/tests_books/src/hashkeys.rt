@@ -133,7 +133,7 @@ fn is_valid(rt: &impl Abort, deal: &Deal, key: &Hashkey, until: PartyId, length:
 }
 
 /// The hashkey that went around to the party `until` is valid there.
-fn is_valid_around(
+fn is_valid_after_steps(
     rt: &impl Abort,
     alloc: Global,
     deal: &Deal,
@@ -148,24 +148,24 @@ fn is_valid_around(
 }
 
 /// The hashkey of the ring of three, after each of its steps.
-fn are_valid_around(rt: &impl Abort, alloc: Global, deal: &Deal) -> Result<(), Fail>
+fn are_valid_after_steps(rt: &impl Abort, alloc: Global, deal: &Deal) -> Result<(), Fail>
     requires { IsWellSized deal.now }
 {
-    is_valid_around(rt, alloc, deal, 3, 1)?;
-    is_valid_around(rt, alloc, deal, 2, 2)?;
-    is_valid_around(rt, alloc, deal, 1, 3)
+    is_valid_after_steps(rt, alloc, deal, 3, 1)?;
+    is_valid_after_steps(rt, alloc, deal, 2, 2)?;
+    is_valid_after_steps(rt, alloc, deal, 1, 3)
 }
 
 #[test]
-fn hashkeys_go_around(rt: HostRuntime) -> Result<(), Fail> {
+fn hashkeys_go_around_a_ring(rt: HostRuntime) -> Result<(), Fail> {
     let ring = read(rt.alloc(), rings::three())?;
-    are_valid_around(&rt, rt.alloc(), &ring)
+    are_valid_after_steps(&rt, rt.alloc(), &ring)
 }
 
 #[test]
 fn a_hashkey_goes_around_the_longest_ring(rt: HostRuntime) -> Result<(), Fail> {
     let ring = read(rt.alloc(), rings::twenty_four())?;
-    is_valid_around(&rt, rt.alloc(), &ring, 1, 24)
+    is_valid_after_steps(&rt, rt.alloc(), &ring, 1, 24)
 }
 
 fn is_answered(rt: &impl Abort, deal: &Deal, arc: ArcId, key: &Hashkey, wanted: HashkeyAnswer)

@@ -9,7 +9,7 @@ pub(crate) const AROUND: &str = r#"{"swap":1,"mode":"timelocks","start":10,"delt
     {"from":"carol","to":"alice","amount":1,"timelock":40}],
 "leaders":[{"party":"alice","hashlock":"66687aadf862bd776c8fc18b8e9f8e20089714856ee233b3902a591d0d5f2925"}]}"#;
 
-/// The same swap with hashkeys.
+/// The swap of alice, bob and carol with hashkeys.
 pub(crate) const THREE: &str = r#"{"swap":1,"mode":"hashkeys","start":10,"delta":10,"bound":2,
 "parties":[{"name":"alice","actor":"manual"},{"name":"bob","actor":"manual"},{"name":"carol","actor":"manual"}],
 "arcs":[

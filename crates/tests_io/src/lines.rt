@@ -65,7 +65,7 @@ fn read_marked_lines(
     Ok(all)
 }
 
-/// The same by hand: a line feed becomes a mark, and bytes that none ends get another.
+/// The marked lines by hand: a line feed becomes a mark, and bytes that none ends get another.
 fn marked(alloc: Global, input: &[u8]) -> Result<Vec<u8>, Fail> {
     let mut all = Vec::new(alloc);
     for b in input {

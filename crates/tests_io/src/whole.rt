@@ -116,8 +116,8 @@ fn counts_text(alloc: Global, first: usize, then: usize, text: &ByteText) -> Res
     Ok(format!(in alloc; "{first} {then} {written}")?)
 }
 
-/// So many bytes to a text that grows, and one more: how many wait after each, and how many were
-/// written at the end.
+/// Writes this many bytes to a text that grows, and one more. Tells how many wait after each write,
+/// and how many were written at the end.
 pub(crate) fn grown(alloc: Global, bytes: usize) -> Result<String, Fail> {
     let mut waiting = vec![in alloc; b'x'; bytes]?;
     let mut sink = TextSink::new(alloc);

@@ -12,7 +12,7 @@ use swap_base::{NoMemory, Shared};
 use swap_digraph::Deal;
 use wallet_journal::{Journal, MemoryDisk, RecordFault};
 
-/// What a journal that is opened anew shows, or why it isn't opened.
+/// What a journal shows once it is opened from its disk, or why it isn't opened.
 fn opened_again(alloc: Global, deal: &Deal, key: &Hashkey, disk: MemoryDisk) -> &'static str
     requires { IsWellSized deal.now }
 {
@@ -156,7 +156,7 @@ const EARLY_STOPS: &str = "\
 1 7 => DiskFault, no key
 1 255 => DiskFault, no key";
 
-/// The same, where the body is synced.
+/// What is answered and shown where the body is synced.
 const LATE_STOPS: &str = "\
 2 0 => DiskFault, no key
 2 1 => DiskFault, the key
@@ -167,7 +167,7 @@ const LATE_STOPS: &str = "\
 3 7 => DiskFault, no key
 3 255 => DiskFault, no key";
 
-/// The same, where all four calls pass.
+/// What is answered and shown where all four calls pass.
 const NO_STOPS: &str = "\
 4 0 => Ok, the key
 4 1 => Ok, the key

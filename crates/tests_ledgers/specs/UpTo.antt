@@ -5,7 +5,7 @@ use Rattle.ledger_core.specs.Value.{LedgerState}
 use Rattle.swap_rules.specs.Machine.{Begins}
 use Rattle.party_machine.specs.Machine.{MachineState}
 
--- The same ledger, with no entry less.
+-- The later ledger is the same one, with no entry less.
 pub record IsLonger (old new : LedgerState) : Type 0 where
   pub deal : new.deal ≡ old.deal
   pub arc : new.arc ≡ old.arc

@@ -60,7 +60,7 @@ fn pushed(alloc: Global, entries: &[Entry]) -> Result<EntryList, Fail> {
     Ok(list)
 }
 
-/// Whether these are the last ticks, of which there are three by 2 above height 9.
+/// Whether these are the last ticks: three by 2 above height 9.
 fn are_last(run: Run) -> bool {
     run.above == 9 && run.by == 2 && run.count == 3
 }
@@ -74,7 +74,7 @@ fn is_in_runs(list: EntryList) -> bool {
     items.len() == 7 && are_last(open)
 }
 
-/// The entries of a ledger, put into a list anew.
+/// The entries of a ledger, put one by one into another list.
 fn put_again(alloc: Global, ledger: &Ledger) -> Result<EntryList, Fail> {
     let entries = ledger.copy_tail(0)?.to_vec(alloc)?;
     pushed(alloc, &entries)
@@ -90,8 +90,8 @@ fn are_in_runs(list: EntryList) -> Result<(bool, bool), NoMemory> {
     Ok((of_copy, is_in_runs(list)))
 }
 
-/// The ticks of a ledger are runs where its entries are put into a list anew, and in a copy of
-/// that.
+/// The ticks of a ledger are runs in a list into which its entries are put one by one, and in a
+/// copy of that list.
 fn are_runs(rt: &impl Abort, alloc: Global, ledger: &Ledger) -> Result<(), Fail> {
     let (of_copy, of_list) = are_in_runs(put_again(alloc, ledger)?)?;
     assert!(rt; of_copy, "a copy");

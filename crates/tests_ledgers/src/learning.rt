@@ -88,7 +88,7 @@ fn make_machine(alloc: Global, deal: &Deal, seed: &Digest) -> Result<Machine, Fa
     requires party { 1 < deal.now.graph.n }
     ensures { IfOk result (λ m. m ≡ new_machine deal.now 1 seed.now) }
 {
-    let wallet = Wallet::of(alloc, seed, 1, deal)?;
+    let wallet = Wallet::for_deal(alloc, seed, 1, deal)?;
     match Machine::new(alloc, deal, 1, wallet) {
         Ok(machine) => Ok(machine),
         Err(_) => Err("no machine".into()),

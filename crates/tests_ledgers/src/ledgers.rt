@@ -124,7 +124,7 @@ fn accounts(rt: &impl Abort, ledger: &Ledger) -> Accounts {
     }
 }
 
-/// The same by the entries.
+/// The units of the arc's party, those of its counterparty, and those held, by the entries.
 fn accounts_read(ledger: &Ledger) -> Result<Accounts, NoMemory> {
     let _ = ledger.history();
     let list = ledger.copy_tail(0)?;

@@ -72,7 +72,7 @@ fn resumed(
     let mut journal = Journal::in_memory(alloc, deal, party)?;
     record(&mut journal, &bare(alloc, lock)?);
     let seed: Digest = [9; 32];
-    let wallet = Wallet::of(alloc, &seed, party, deal)?;
+    let wallet = Wallet::for_deal(alloc, &seed, party, deal)?;
     Ok(told(Machine::resume(alloc, deal, party, wallet, &journal)))
 }
 

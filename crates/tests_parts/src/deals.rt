@@ -40,7 +40,7 @@ fn pair(alloc: Global) -> Result<Digraph, Fail>
     Ok(graph)
 }
 
-/// Two locks, of which party a leads both.
+/// Two locks that party a leads.
 fn locks(alloc: Global) -> Result<(Listed<PartyId>, Listed<Digest>), Fail>
     ensures leaders { IfOk result (λ l. l.0 ≡ 0 ∷ 0 ∷ []) }
     ensures hashlocks { IfOk result (λ l. length l.1 ≡ 2) }

@@ -23,8 +23,8 @@ fn onward(alloc: Global, n: u8, few: u8) -> Result<Vec<ArcEnds>, NoMemory>
     Ok(arcs)
 }
 
-/// A ring of 24 parties with chords of up to four places, none of which jumps over party 0, and
-/// with longer ones from it: 96 arcs.
+/// A ring of 24 parties with 96 arcs. Its chords span up to four places and don't jump over party
+/// 0; longer ones leave party 0.
 fn chorded(alloc: Global) -> Result<Vec<ArcEnds>, NoMemory> {
     let mut arcs = Vec::new(alloc);
     for from in 0..24u8 {

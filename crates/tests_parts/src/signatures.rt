@@ -52,7 +52,8 @@ fn signed(
     Ok((public, to_digest(&public, message, &sig)))
 }
 
-/// The same for a seed, a party, a lock and a message in words.
+/// The public key, and the digest of the signature, for a seed, a party, a lock and a message in
+/// words.
 fn parse_signed(alloc: Global, words: &str) -> Result<(Digest, Digest), NoMemory> {
     let (seed, rest) = parted(words, " ");
     let (party, rest) = parted(rest, " ");
@@ -84,7 +85,7 @@ fn signed_told(alloc: Global, words: &str) -> Result<String, AllocError> {
     }
 }
 
-/// The digests that words ask for, the first of which says of what.
+/// The digests that words ask for. The first word says what is hashed.
 pub(crate) fn list_digests(alloc: Global, asked: &str) -> Result<String, AllocError> {
     let (word, rest) = parted(asked, " ");
     match word {

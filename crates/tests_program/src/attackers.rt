@@ -98,7 +98,7 @@ fn move_away(deal: &Deal, me: PartyId, at: u32) -> Option<(ArcId, Call)>
 
 /// The arc in that place, counted round and round, first of those that leave the party and then of
 /// those that enter it.
-fn arc_around(deal: &Deal, me: PartyId, at: u32) -> Option<ArcId>
+fn arc_in_turn(deal: &Deal, me: PartyId, at: u32) -> Option<ArcId>
     requires party { me < deal.now.graph.n }
 {
     let leaving = deal.graph.leaving(me);
@@ -118,7 +118,7 @@ fn arc_around(deal: &Deal, me: PartyId, at: u32) -> Option<ArcId>
 fn take(deal: &Deal, me: PartyId, turn: u32) -> Option<(ArcId, Call)>
     requires party { me < deal.now.graph.n }
 {
-    let arc = arc_around(deal, me, turn / 3)?;
+    let arc = arc_in_turn(deal, me, turn / 3)?;
     let call = match turn % 3 {
         0 => Call::Claim,
         1 => Call::Refund,

@@ -1,4 +1,4 @@
-//! Attacks: what a run of each reports, and that a race comes to the same.
+//! Attacks: what a run of each reports, and that a race reports the same.
 
 ghost use Rattle.std.specs.Prelude.{IfOk};
 ghost use Rattle.deviators.specs.View.{IsView, MayAnswer};

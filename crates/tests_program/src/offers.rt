@@ -17,7 +17,7 @@ fn job_counts(read: &Result<(Job, Vec<Event>), Fault<Refusal>>) -> (usize, Optio
     }
 }
 
-/// The same of a text, which isn't too long.
+/// How many names and events are read of a text that isn't too long.
 fn counts(alloc: Global, text: &str) -> (usize, Option<usize>) {
     if text.len() >= 1_000_000 {
         return (0, None);

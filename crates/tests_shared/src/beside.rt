@@ -137,7 +137,7 @@ fn check_neighbor_answered<R: Threads + Wait + Sync + Abort>(
     assert!(rt; answered);
 }
 
-/// The same on another ledger, shared anew.
+/// Whether a call is answered beside the turn, on another ledger that is shared for it.
 fn is_answered<R: Threads + Wait + Sync + Abort>(
     rt: &R,
     alloc: Global,

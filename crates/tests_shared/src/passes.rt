@@ -178,8 +178,8 @@ fn fills_clock<R: Wait>(rt: &R, ledger: &SharedLedger, pass: &mut ClockPass, see
     first == Some(Reply::Accepted) && second == Some(Reply::ClockFull) && pass.seen() == seen
 }
 
-/// Whether a claim finds its sender full, and the pass has then seen `seen` entries, of which this
-/// call added the last.
+/// Whether a claim finds its sender full, and the pass has then seen `seen` entries, with the one
+/// that this call added last.
 fn is_full<R: Wait>(rt: &R, ledger: &SharedLedger, pass: &mut Pass, seen: u32) -> bool
     requires { pass.old.lock ≡ ledger.now.lock }
 {

@@ -6,8 +6,8 @@
 ghost use Rattle.std.specs.Prelude.{◌≡◌, ◌≤◌, ◌*◌, ◌+◌};
 ghost use Rattle.time_bounds.specs.Times.{need, opening_deadline, deadline, last_expiry, own_expiry, horizon, timelock};
 
-/// A bound on the arcs of a path that ends in a leader: n parties, of which some lead, and h, the
-/// most vertices on a path of followers alone.
+/// A bound on the arcs of a path that ends in a leader. There are n parties, this many of them
+/// lead, and h is the most vertices on a path of followers alone.
 pub fn need(n: u8, leaders: u8, h: u8) -> u32
     requires parties { 1 ≤ n }
     requires leaders { 1 ≤ leaders }

@@ -257,7 +257,7 @@ module _ (d : Deal) (v : ℕ) (k h : Histories) (s : SayEnough d v k h) where
           ∙ sym (no_choice (is_withheld d v h i) (flat_map (due_arc_unlock d v w (signed i) h i) (entering d.graph v))
           (unready h r w (signed i) i (entering d.graph v)))
 
-  -- and all that presses over the one presses over the other
+  -- all that presses over the one book presses over the other
   pub same_pressing : (w : Wallet) (signed : ℕ → Option Hashkey) → pressing d v w signed k ≡ pressing d v w signed h
   unfolding pressing
   same_pressing w signed =
@@ -273,7 +273,7 @@ module _ (d : Deal) (v : ℕ) (k h : Histories) (s : SayEnough d v k h) where
       (λ a i. ap₂ (λ x n. when_due (x && nat_le n (times.opening_deadline d.start d.delta d.bound)) a (Publish (stated_terms d a)))
       (same_due_publish a) (leaving_same a i).height)
 
-  -- and all that is useful over the one is useful over the other
+  -- all that is useful over the one book is useful over the other
   pub same_useful : (w : Wallet) (signed : ℕ → Option Hashkey) → useful d v w signed k ≡ useful d v w signed h
   unfolding useful
   same_useful w signed =

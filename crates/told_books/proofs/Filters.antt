@@ -79,7 +79,7 @@ pub moment-filter : {A : Type 0} (p : A → Bool) (xs past : List A) (x : A) →
 moment-filter p xs past x m e =
     (filter p m.0, ap (filter p) m.1 ∙ (filter-append p past (x ∷ m.0) ∙ ap (λ b. filter p past ++ cond b (x ∷ filter p m.0) (filter p m.0)) e))
 
--- and a moment of the part is one of the whole
+-- a moment of the part is one of the whole
 unfilter_head : {A : Type 0} (p : A → Bool) (y : A) (xs past : List A) (x : A) (b : Bool) → p y ≡ b
     → ((past : List A) → IsMoment (filter p xs) past x → (whole : List A) × IsMoment xs whole x × (filter p whole ≡ past))
     → IsMoment (cond b (y ∷ filter p xs) (filter p xs)) past x

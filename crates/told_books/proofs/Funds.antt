@@ -44,7 +44,7 @@ not_mine v e to units k calm =
     not-true (is_sender v e.sender) (λ t. false≢true (sym calm ∙ ap is_transfer (ap (λ b. cond b (made_call e.what) None) t
     ∙ (ticks_accept_none e.what e.reply (Transfer to units) k).1)))
 
--- and is noise
+-- an accepted transfer that isn't v's is noise
 pub transfer_is_noise : (v : ℕ) (e : Entry) (to units : ℕ) → accepted e ≡ Some (Transfer to units) → is_transfer (pick_call v e) ≡ false
     → is_told v e ≡ false
 transfer_is_noise v e to units k calm =

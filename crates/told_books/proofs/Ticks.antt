@@ -82,7 +82,7 @@ needed_is_legal d v a h few chain w = go (is_useless d v a h) refl
     go false e =
         subst (IsLegal d a) (sym (ap (λ b. filter (is_needed b v) h) e ∙ all_told v h)) (telling_is_legal d v a h few (chain.contract e) w)
 
--- And short.
+-- The ticks of a history are short.
 
 no_calls : (h : List Entry) → ((e : Entry) → IsElement e h → is_ticking e.what ≡ true) → call_count h ≡ 0
 no_calls [] t = refl
@@ -105,7 +105,7 @@ needed_is_short d v a h chain = go (is_useless d v a h) refl
         subst (λ l. length (merged l) ≤ 2 * (count_by (λ e. is_sender v e.sender) h + length d.leaders + 2) + 1)
         (sym (ap (λ b. filter (is_needed b v) h) e ∙ all_told v h)) (telling_is_short d v a h (chain.contract e))
 
--- A book of a chain is one of which no more is needed.
+-- A party needs nothing beside the book of a chain.
 
 true_clock : (d : Deal) (v a : ℕ) (h : List Entry) → IsChain d v a h → HasTrueClock d a h
 true_clock d v a h =

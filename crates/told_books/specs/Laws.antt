@@ -24,18 +24,18 @@ abbrev pub WhatIsSaidIsDue : Type 0
 WhatIsSaidIsDue =
     (d : Deal) (v : ℕ) (w : Wallet) (signed : ℕ → Option Hashkey) (k h : Histories) → SayTheSame v k h → due d v w signed k ≡ due d v w signed h
 
--- and so it is where of contracts with wrong terms, on arcs that enter v, other things are said, or
--- nothing
+-- over books that say enough the same is due for v: of contracts with wrong terms, on arcs that
+-- enter v, other things may be said, or nothing
 abbrev pub EnoughIsDue : Type 0
 EnoughIsDue =
     (d : Deal) (v : ℕ) (w : Wallet) (signed : ℕ → Option Hashkey) (k h : Histories) → SayEnough d v k h → due d v w signed k ≡ due d v w signed h
 
--- the same is useful
+-- over books that say enough the same is useful for v
 abbrev pub EnoughIsUseful : Type 0
 EnoughIsUseful =
     (d : Deal) (v : ℕ) (w : Wallet) (signed : ℕ → Option Hashkey) (k h : Histories) → SayEnough d v k h → useful d v w signed k ≡ useful d v w signed h
 
--- and the same presses
+-- over books that say enough the same presses for v
 abbrev pub EnoughIsPressing : Type 0
 EnoughIsPressing =
     (d : Deal) (v : ℕ) (w : Wallet) (signed : ℕ → Option Hashkey) (k h : Histories) → SayEnough d v k h → pressing d v w signed k ≡ pressing d v w signed h
@@ -44,7 +44,7 @@ EnoughIsPressing =
 abbrev pub EnoughRests : Type 0
 EnoughRests = (d : Deal) (v : ℕ) (k h : Histories) → SayEnough d v k h → rest_deadline d v k ≡ rest_deadline d v h
 
--- and what is told may have its successive ticks told as one
+-- a book that says enough may have its successive ticks told as one
 abbrev pub MergedSaysEnough : Type 0
 MergedSaysEnough = (d : Deal) (v : ℕ) (k h : Histories) → SayEnough d v k h → SayEnough d v (map merged k) h
 
@@ -56,7 +56,7 @@ WhatIsSaidRests = (d : Deal) (v : ℕ) (k h : Histories) → SayTheSame v k h �
 abbrev pub TellingsSayTheSame : Type 0
 TellingsSayTheSame = (v : ℕ) (h : List Entry) → SaysTheSame v (telling v h) h
 
--- and successive ticks may be told as one, or as more, to the same height
+-- successive ticks may be told as one, or as more, to the same height
 abbrev pub TicksMayBeMerged : Type 0
 TicksMayBeMerged =
     (v : ℕ) (past k h rest : List Entry) → are_ticks k ≡ true → are_ticks h ≡ true → height k ≡ height h
@@ -81,7 +81,7 @@ pub record HoldsAsTold (d : Deal) (v : ℕ) (c b : Histories) : Type 0 where
   pub same_outcome : outcome d c v ≡ outcome d b v
   pub ended : IsEnded d c ↔ IsEnded d b
 
--- so it is in a book without noise
+-- a book without noise holds the same for v
 abbrev pub AllHoldsAsTold : Type 0
 AllHoldsAsTold = (d : Deal) (v : ℕ) (b : Histories) → HoldsAsTold d v (tellings v b) b
 
@@ -89,7 +89,7 @@ AllHoldsAsTold = (d : Deal) (v : ℕ) (b : Histories) → HoldsAsTold d v (telli
 abbrev pub AllOutcomesAreTold : Type 0
 AllOutcomesAreTold = (d : Deal) (v u : ℕ) (b : Histories) → outcome d (tellings v b) u ≡ outcome d b u
 
--- and in a book as far as v needs it
+-- what v needs of a book holds the same for v
 abbrev pub NeededHoldsAsTold : Type 0
 NeededHoldsAsTold = (d : Deal) (v : ℕ) (b : Histories) → HoldsAsTold d v (all_needed d v b) b
 
@@ -132,7 +132,7 @@ TellingIsShort =
     (d : Deal) (v a : ℕ) (h : List Entry) → IsChain d v a h
     → length (merged (telling v h)) ≤ 2 * (count_by (λ e. is_sender v e.sender) h + length d.leaders + 2) + 1
 
--- so each book of a chain without limits can be told: legal, in few entries, and saying the same
+-- each book of a chain without limits can be told: legal, in few entries, and saying the same
 abbrev pub BookCanBeTold : Type 0
 BookCanBeTold =
     (d : Deal) (v : ℕ) (b : Histories) → length d.leaders ≤ 8 → IsChainBook d v b → ((a : ℕ) → KeepsLedgerLimits v (history b a))
@@ -140,7 +140,7 @@ BookCanBeTold =
 
 -- What v needs of a history.
 
--- a book of a chain without limits is one of which v needs nothing else
+-- v needs nothing beside the book of a chain without limits
 abbrev pub ChainIsNeeded : Type 0
 ChainIsNeeded = (d : Deal) (v : ℕ) (b : Histories) → IsChainBook d v b → IsNeededBook d v b
 
@@ -150,13 +150,14 @@ abbrev pub NeededIsLegal : Type 0
 NeededIsLegal =
     (d : Deal) (v a : ℕ) (h : List Entry) → length d.leaders ≤ 8 → IsNeededChain d v a h → KeepsLedgerLimits v h → IsLegal d a (needed_history d v a h)
 
--- and short
+-- what v needs of a chain without limits is short
 abbrev pub NeededIsShort : Type 0
 NeededIsShort =
     (d : Deal) (v a : ℕ) (h : List Entry) → IsNeededChain d v a h
     → length (merged (needed_history d v a h)) ≤ 2 * (count_by (λ e. is_sender v e.sender) h + length d.leaders + 2) + 1
 
--- so each such book can be told: legal, in few entries, and saying enough
+-- each book that v needs of chains without limits can be told: legal, in few entries, and saying
+-- enough
 abbrev pub NeededCanBeTold : Type 0
 NeededCanBeTold =
     (d : Deal) (v : ℕ) (b : Histories) → length d.leaders ≤ 8 → IsNeededBook d v b → ((a : ℕ) → KeepsLedgerLimits v (history b a))

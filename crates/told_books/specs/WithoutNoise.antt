@@ -53,7 +53,7 @@ pub record SaysTheSame (v : ℕ) (k h : List Entry) : Type 0 where
   pub settled : settled k ≡ settled h
   pub calls : (test : Option Call → Bool) → test None ≡ false → has_called v test k ≡ has_called v test h
 
--- and so do two books, arc by arc
+-- Two books say the same to v, arc by arc.
 abbrev pub SayTheSame : ℕ → Histories → Histories → Type 0
 SayTheSame v k h = (a : ℕ) → SaysTheSame v (history k a) (history h a)
 
@@ -70,7 +70,7 @@ pub record AreUseless (d : Deal) (v a : ℕ) (k h : List Entry) : Type 0 where
 abbrev pub SayEnough : Deal → ℕ → Histories → Histories → Type 0
 SayEnough d v k h = (a : ℕ) → SaysTheSame v (history k a) (history h a) ⊎ AreUseless d v a (history k a) (history h a)
 
--- Arcs of which a party need be told the ticks alone.
+-- Arcs whose ticks are all that a party need be told.
 
 -- arc a is useless to v: it enters v and doesn't leave it, no publish of the correct terms was
 -- accepted there, and v made no call there
@@ -78,8 +78,8 @@ abbrev pub is_useless : Deal → ℕ → ℕ → List Entry → Bool
 is_useless d v a h =
     is_listed a (entering d.graph v) && not (is_listed a (leaving d.graph v)) && not (is_arc_correct d a (published h)) && not (has_called v is_some h)
 
--- v needs an entry: of a useless arc each tick, and each call of v, of which there is none; of
--- another arc each entry that is told
+-- whether v needs an entry: on a useless arc each tick and each call of v, though v made none
+-- there; on another arc each entry that is told
 abbrev pub is_needed : (useless : Bool) → ℕ → Entry → Bool
 is_needed true v e = is_ticking e.what || is_sender v e.sender
 is_needed false v e = is_told v e

@@ -14,7 +14,7 @@ use Rattle.told_ledgers.specs.SoFar.{LedgerSoFar}
 use Rattle.told_ledgers.specs.Ledger.{is_first_publish, is_passed, line_heard, kind_line_read, own_unlock, publishes, replied, stated_entry, with_stated}
 use Rattle.told_ledgers.specs.Inside.{IsHeardLedgerForParty, IsLedgerForParty}
 
--- the same ledger, read for the same party
+-- the ledger is the same one, read for the same party
 pub record IsSame (s t : LedgerSoFar) : Type 0 where
   pub deal : t.deal ≡ s.deal
   pub me : t.me ≡ s.me
@@ -56,7 +56,7 @@ still_of d v s (More t) k same = record {
 }
 still_of d v s (Bad t) k same = tt
 
--- so the ledger at hand stays one of the deal's, read for v
+-- the ledger at hand stays one of the deal's, read for v
 pub heard_of : (d : Deal) (v n : ℕ) (s : LedgerSoFar) (kind : Kind) (line : List ℕ) → IsLedgerForParty d v s → IsHeardLedgerForParty d v (line_heard n s kind line)
 heard_of d v n s kind line k = still_of d v s (line_heard n s kind line) k (heard_same n s kind line)
 

@@ -28,7 +28,7 @@ use Rattle.told_ledgers.specs.declared.stage.Stage.TheVariants.{Between, Over, P
 use Rattle.told_ledgers.specs.SoFar.{LedgerSoFar}
 use Rattle.told_ledgers.specs.Words.{line_kind}
 use Rattle.told_ledgers.specs.Ledger.{line_heard, nothing_read, whole_told_ledger, untold}
-use Rattle.told_ledgers.specs.Telling.{Telling, begun_at_heading, frame_told, with_heard, heading_said, line_told_at_stage, line_told, next_number, unless_bad_line, one_less, passing, reading}
+use Rattle.told_ledgers.specs.Telling.{Telling, begun_at_heading, frame_told, with_heard, heading_said, line_told_at_stage, line_told, next_number, unless_bad_line, one_less, passing, reading_ledger}
 use Rattle.told_ledgers.specs.Telling.{told_book, further_lines_told}
 use Rattle.told_ledgers.specs.Inside.{AreLegal}
 
@@ -51,7 +51,7 @@ abbrev KeepsDeal : Telling → Result Telling Misspelling → Type 0
 KeepsDeal s (Ok t) = t.deal ≡ s.deal
 KeepsDeal s (Err e) = Unit {0}
 
-reading_deal : (l : LedgerSoFar) (s : Telling) → (reading l s).deal ≡ s.deal
+reading_deal : (l : LedgerSoFar) (s : Telling) → (reading_ledger l s).deal ≡ s.deal
 reading_deal l s = by (s.more == 0)
   where
     by : (t : Bool) → (cond t (record s { ledgers = slice_set s.ledgers l.arc (whole_told_ledger l); stage = Between }) (record s { stage = Reading l })).deal ≡ s.deal
@@ -68,7 +68,7 @@ begun_deal h s = by (touches s.deal s.me h.arc)
     at : Telling
     at = record s { least = h.arc + 1; count = h.count; more = h.count }
 
-    by : (t : Bool) → (cond t (reading (nothing_read at.deal at.me h.arc) at) (passing at)).deal ≡ s.deal
+    by : (t : Bool) → (cond t (reading_ledger (nothing_read at.deal at.me h.arc) at) (passing at)).deal ≡ s.deal
     by true = reading_deal (nothing_read at.deal at.me h.arc) at
     by false = refl
 

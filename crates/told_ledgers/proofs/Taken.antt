@@ -8,8 +8,8 @@ use Rattle.told_ledgers.specs.declared.stage.Stage.{Stage}
 use Rattle.told_ledgers.specs.declared.stage.Stage.TheVariants.{Reading}
 use Rattle.told_ledgers.specs.SoFar.{LedgerSoFar}
 use Rattle.told_ledgers.specs.Ledger.{line_heard}
-use Rattle.told_ledgers.specs.Telling.{Telling, one_less, reading, with_heard}
-use Rattle.told_ledgers.specs.Inside.{IsTaken, kind_told}
+use Rattle.told_ledgers.specs.Telling.{Telling, one_less, reading_ledger, with_heard}
+use Rattle.told_ledgers.specs.Inside.{HasTakenLine, kind_told}
 
 -- there is one ledger at hand
 same_ledger : (l one : LedgerSoFar) → ◌≡◌ {A = Stage} (Reading l) (Reading one) → one ≡ l
@@ -17,10 +17,10 @@ same_ledger l one e = cc e
 
 module _ (kind : Kind) (line : List ℕ) (one next : LedgerSoFar) (old new : Telling) where
   abbrev Took : Bool → Type 0
-  Took t = t ≡ true → (l : LedgerSoFar) → old.stage ≡ Reading l → IsTaken kind line l old new
+  Took t = t ≡ true → (l : LedgerSoFar) → old.stage ≡ Reading l → HasTakenLine kind line l old new
 
   taken_one : ((n : ℕ) → line_heard n one kind line ≡ More next) → new ≡ record old { stage = Reading next } → old.stage ≡ Reading one → (l : LedgerSoFar)
-      → old.stage ≡ Reading l → IsTaken kind line l old new
+      → old.stage ≡ Reading l → HasTakenLine kind line l old new
   taken_one heard reads at l e =
       let same : one ≡ l = same_ledger l one (sym e ∙ at) in record {
         next = next;
@@ -39,9 +39,9 @@ pub none_taken : {E : Type 0} (q : Result Bool E) (P : Type 0) → q ≡ Ok fals
 none_taken q P is = subst (λ p. IfOk p (λ t. t ≡ true → P)) (sym is) (λ e. absurd (cc e))
 
 -- what the ledger took is told
-pub finished : (kind : Kind) (line : List ℕ) (l : LedgerSoFar) (old mid new : Telling) → IsTaken kind line l old mid
-    → ((m : LedgerSoFar) → mid.stage ≡ Reading m → new ≡ reading m (one_less mid)) → new ≡ kind_told l old kind line
+pub finished : (kind : Kind) (line : List ℕ) (l : LedgerSoFar) (old mid new : Telling) → HasTakenLine kind line l old mid
+    → ((m : LedgerSoFar) → mid.stage ≡ Reading m → new ≡ reading_ledger m (one_less mid)) → new ≡ kind_told l old kind line
 finished kind line l old mid new t f =
     f t.next (ap (λ (s : Telling). s.stage) t.reads)
-    ∙ ap (λ (s : Telling). reading t.next (one_less s)) t.reads
+    ∙ ap (λ (s : Telling). reading_ledger t.next (one_less s)) t.reads
     ∙ ap (λ (h : Heard). with_heard l.arc h (one_less old)) (sym (t.heard (old.count - old.more)))

@@ -16,7 +16,7 @@ use Rattle.transcript_lines.specs.declared.said.Said.{Said}
 use Rattle.transcript_lines.specs.declared.said.Misspelling.{Misspelling}
 use Rattle.transcript_lines.specs.Reading.{bounded_number, line_said}
 use Rattle.transcript_lines.proofs.Spelling.{tick_line_back}
-use Rattle.transcript_book.specs.Entries.{parse_entry, placed}
+use Rattle.transcript_book.specs.Entries.{parse_entry, said_entry}
 use Rattle.transcript_book.proofs.Exact.{below_is}
 use Rattle.transcript_book.proofs.Complete.{placed_back}
 use Rattle.told_ledgers.specs.declared.kind.Kind.{Kind}
@@ -25,7 +25,7 @@ use Rattle.told_ledgers.specs.declared.told_ledger.OwnUnlock.{OwnUnlock}
 use Rattle.told_ledgers.specs.declared.one_ledger.Heard.TheVariants.{More}
 use Rattle.told_ledgers.specs.SoFar.{LedgerSoFar}
 use Rattle.told_ledgers.specs.Ledger.{line_heard, kind_line_read, replied, stated_entry}
-use Rattle.told_ledgers.specs.Inside.{IsTicked, tick_line}
+use Rattle.told_ledgers.specs.Inside.{HasTakenTick, tick_line}
 
 -- the digits of a number
 pub digits_are : (digits : List ℕ) (k : ℕ) → bounded_number 1000001 digits ≡ Ok k → digits ≡ decimal k
@@ -44,7 +44,7 @@ module _ (n k : ℕ) (s t : LedgerSoFar) (line : List ℕ) (is : line ≡ tick_l
   entry = tick_entry k (height s.past + k) Accepted
 
   said : Result Said Misspelling → Result Entry Misspelling
-  said r = r >>= λ x. placed s.deal s.arc (written_height (height s.past)) x
+  said r = r >>= λ x. said_entry s.deal s.arc (written_height (height s.past)) x
 
   stated : height s.past + k ≤ 1000000 → stated_entry s line ≡ Ok entry
   unfolding parse_entry said entry
@@ -53,7 +53,7 @@ module _ (n k : ℕ) (s t : LedgerSoFar) (line : List ℕ) (is : line ≡ tick_l
       ap (λ (l : List ℕ). said (line_said (length s.deal.leaders) l)) is ∙ ap said (tick_line_back (length s.deal.leaders) k (omega arith))
       ∙ placed_back s.deal s.arc s.past Clock (Tick k) Accepted (height s.past + k) f
 
-  pub tick_heard : IsTicked k s t → line_heard n s Read line ≡ More t
+  pub tick_heard : HasTakenTick k s t → line_heard n s Read line ≡ More t
   unfolding kind_line_read entry
   tick_heard g =
       let room = tick_room s.past k Accepted g.accepted (λ q. absurd (cc q)) in
@@ -64,7 +64,7 @@ module _ (n k : ℕ) (s t : LedgerSoFar) (line : List ℕ) (is : line ≡ tick_l
       ∙ ap (λ (x : LedgerSoFar). More x) (sym g.ticked)
 
 pub ticked_heard : {E : Type 0} (r : Result Bool E) (k : ℕ) (kind : Kind) (s t : LedgerSoFar) (line : List ℕ) → kind ≡ Read → line ≡ tick_line k → 1 ≤ k
-    → k ≤ 1000000 → IfOk r (λ b. b ≡ true → IsTicked k s t) → IfOk r (λ b. b ≡ true → (n : ℕ) → line_heard n s kind line ≡ More t)
+    → k ≤ 1000000 → IfOk r (λ b. b ≡ true → HasTakenTick k s t) → IfOk r (λ b. b ≡ true → (n : ℕ) → line_heard n s kind line ≡ More t)
 ticked_heard (Ok b) k kind s t line read is some below g =
     λ e n. ap (λ (x : Kind). line_heard n s x line) read ∙ tick_heard n k s t line is some below (g e)
 ticked_heard (Err f) k kind s t line read is some below g = tt

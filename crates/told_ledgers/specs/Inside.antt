@@ -23,8 +23,8 @@ use Rattle.told_ledgers.specs.Telling.{Telling, one_less, with_heard}
 
 -- ---- one ledger
 
-abbrev pub so_far : one_ledger.Inside → LedgerSoFar
-so_far l = record {
+abbrev pub ledger_so_far : one_ledger.Inside → LedgerSoFar
+ledger_so_far l = record {
   deal = l.ledger.deal;
   me = l.me;
   arc = l.ledger.arc;
@@ -48,7 +48,7 @@ abbrev pub tick_line : ℕ → List ℕ
 tick_line k = spaced (entry_words Clock (Tick k) Accepted)
 
 -- the ledger takes a tick by k
-pub record IsTicked (k : ℕ) (old new : LedgerSoFar) : Type 0 where
+pub record HasTakenTick (k : ℕ) (old new : LedgerSoFar) : Type 0 where
   pub accepted : Accepted ≡ reply_to_tick old.past k
   pub ticked : new ≡ record old { past = old.past ++ tick_entry k (height old.past + k) Accepted ∷ [] }
 
@@ -71,7 +71,7 @@ pub record IsLedgerForParty (d : Deal) (v : ℕ) (l : LedgerSoFar) : Type 0 wher
   pub me : l.me ≡ v
   pub arc : l.arc < length d.graph.arcs
 
--- and so it is behind a line of it
+-- behind a line of it the ledger at hand is one of the deal's, and is read for the party
 abbrev pub IsHeardLedgerForParty : Deal → ℕ → Heard → Type 0
 IsHeardLedgerForParty d v (More l) = IsLedgerForParty d v l
 IsHeardLedgerForParty d v (Bad t) = Unit {0}
@@ -100,7 +100,7 @@ abbrev pub kind_told : LedgerSoFar → Telling → Kind → List ℕ → Telling
 kind_told l s kind line = with_heard l.arc (line_heard (s.count - s.more) l kind line) (one_less s)
 
 -- The ledger at hand took the line of that kind, and further lines of it are read.
-pub record IsTaken (kind : Kind) (line : List ℕ) (l : LedgerSoFar) (old new : Telling) : Type 0 where
+pub record HasTakenLine (kind : Kind) (line : List ℕ) (l : LedgerSoFar) (old new : Telling) : Type 0 where
   pub next : LedgerSoFar
   pub heard : (n : ℕ) → line_heard n l kind line ≡ More next
   pub reads : new ≡ record old { stage = Reading next }

@@ -54,7 +54,7 @@ pub record Telling : Type 0 where
   pub least : ℕ
   -- how many lines the ledger at hand has
   pub count : ℕ
-  -- and how many of them are to come
+  -- how many lines of the ledger at hand are to come
   pub more : ℕ
   pub stage : Stage
 
@@ -70,8 +70,8 @@ nothing_told d v = record {
 }
 
 -- further lines of the ledger are read, if any is to come
-abbrev pub reading : LedgerSoFar → Telling → Telling
-reading l s =
+abbrev pub reading_ledger : LedgerSoFar → Telling → Telling
+reading_ledger l s =
     if s.more == 0 then record s { ledgers = slice_set s.ledgers l.arc (whole_told_ledger l); stage = Between }
     else record s { stage = Reading l }
 
@@ -85,14 +85,14 @@ one_less s = record s { more = s.more - 1 }
 
 -- the ledger that touches the party is read, and any other passed over
 abbrev pub begun_ledger : ℕ → Telling → Telling
-begun_ledger a s = if touches s.deal s.me a then reading (nothing_read s.deal s.me a) s else passing s
+begun_ledger a s = if touches s.deal s.me a then reading_ledger (nothing_read s.deal s.me a) s else passing s
 
 abbrev pub begun_at_heading : Heading → Telling → Telling
 begun_at_heading h s = begun_ledger h.arc (record s { least = h.arc + 1; count = h.count; more = h.count })
 
 -- what stands behind a bad entry is passed over
 abbrev pub with_heard : ℕ → Heard → Telling → Telling
-with_heard a (More l) s = reading l s
+with_heard a (More l) s = reading_ledger l s
 with_heard a (Bad t) s = passing (record s { ledgers = slice_set s.ledgers a t })
 
 -- the line between two ledgers, or the last line
@@ -130,12 +130,12 @@ abbrev pub all_told : Stage → List ToldLedger → Result (List ToldLedger) Rea
 all_told Over ledgers = Ok ledgers
 all_told _ ledgers = Err CutShort
 
--- what further lines tell, the first of which has that number
+-- what further lines tell, where the first of them has that number
 abbrev pub further_lines_told : ℕ → Telling → List (List ℕ) → Result (List ToldLedger) Reason
 further_lines_told n s [] = all_told s.stage s.ledgers
 further_lines_told n s (l ∷ ls) = unless_bad_line n (line_told s l) >>= λ t. further_lines_told (next_number n) t ls
 
--- what is told to v of each arc's ledger by lines, the first of which has that number
+-- what lines tell v of each arc's ledger, where the first line has that number
 unfoldable pub ledgers_told : Deal → (v first : ℕ) → List (List ℕ) → Result (List ToldLedger) Reason
 ledgers_told d v first ls = further_lines_told first (nothing_told d v) ls
 

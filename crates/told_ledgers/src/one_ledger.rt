@@ -6,7 +6,7 @@ ghost use Rattle.swap_digraph.specs.Deal.{IsWellSized};
 ghost use Rattle.ledger_core.specs.History.{IsLegal};
 ghost use Rattle.ledger_core.specs.WellFormed.{IsFormedEntry};
 ghost use Rattle.swap_rules.specs.Party.{pick_call};
-ghost use Rattle.told_ledgers.specs.Inside.{IsLegalHeard, IsTicked, tick_line};
+ghost use Rattle.told_ledgers.specs.Inside.{IsLegalHeard, HasTakenTick, tick_line};
 ghost use Rattle.told_ledgers.specs.Ledger.{is_correct_publish, is_first_publish, is_passed, line_heard, kind_line_read, nothing_read, own_unlock, publishes_terms, whole_told_ledger};
 ghost use Rattle.told_ledgers.specs.Ledger.{stated_entry, with_stated};
 ghost use Rattle.told_ledgers.specs.declared.one_ledger.Heard.TheVariants.{More};
@@ -38,9 +38,9 @@ impl Model for OneLedger {
 
     ghost Value = { LedgerSoFar };
 
-    ghost use Rattle.told_ledgers.specs.Inside.{so_far, IsReplayedLedger};
+    ghost use Rattle.told_ledgers.specs.Inside.{ledger_so_far, IsReplayedLedger};
 
-    ghost view = { so_far };
+    ghost view = { ledger_so_far };
 
     ghost invariant = { IsReplayedLedger };
 }
@@ -336,7 +336,7 @@ impl OneLedger {
     fn take_tick(&mut self, k: u32) -> Result<bool, NoMemory>
         requires some { 1 ≤ k }
         requires below { k ≤ 1000000 }
-        ensures taken { IfOk result (λ t. t ≡ true → IsTicked k self.old self.new) }
+        ensures taken { IfOk result (λ t. t ≡ true → HasTakenTick k self.old self.new) }
         ensures left { IfOk result (λ t. t ≡ false → self.new ≡ self.old) }
         ensures kept { self.new ≡ record self.old { past = self.new.past } }
     {

@@ -5,11 +5,11 @@ ghost use Rattle.swap_base.specs.Fault.{Gives};
 ghost use Rattle.swap_digraph.specs.Deal.{IsWellSized};
 ghost use Rattle.ledger_core.specs.Book.{IsLegalBook};
 ghost use Rattle.ledger_core.specs.History.{IsLegal};
-ghost use Rattle.told_ledgers.specs.Inside.{IsHeardLedgerForParty, IsLegalHeard, IsLedgerForParty, IsTaken, kind_told};
+ghost use Rattle.told_ledgers.specs.Inside.{IsHeardLedgerForParty, IsLegalHeard, IsLedgerForParty, HasTakenLine, kind_told};
 ghost use Rattle.told_ledgers.specs.SoFar.{LedgerSoFar};
 ghost use Rattle.told_ledgers.specs.declared.stage.Stage.TheVariants.{Reading};
 ghost use Rattle.told_ledgers.specs.Ledger.{untold};
-ghost use Rattle.told_ledgers.specs.Telling.{all_told, begun_at_heading, begun_ledger, frame_told, with_heard, ledger_told, line_told, nothing_told, one_less, passing, reading, told_book};
+ghost use Rattle.told_ledgers.specs.Telling.{all_told, begun_at_heading, begun_ledger, frame_told, with_heard, ledger_told, line_told, nothing_told, one_less, passing, reading_ledger, told_book};
 
 use crate::heading::{Heading, heading_said};
 use crate::kind::{Kind, line_kind};
@@ -117,7 +117,7 @@ impl LedgersReader {
     /// Goes on with further lines of a ledger, if any is to come.
     fn continue_ledger(&mut self, one: OneLedger)
         requires { IsLedgerForParty self.old.deal self.old.me one }
-        ensures { self.new ≡ reading one self.old }
+        ensures { self.new ≡ reading_ledger one self.old }
     {
         if self.more == 0 {
             let arc = one.arc();
@@ -190,7 +190,7 @@ impl LedgersReader {
 
     /// Goes on behind a line that the ledger at hand took.
     fn finish_line(&mut self)
-        ensures { (l : LedgerSoFar) → self.old.stage ≡ Reading l → self.new ≡ reading l (one_less self.old) }
+        ensures { (l : LedgerSoFar) → self.old.stage ≡ Reading l → self.new ≡ reading_ledger l (one_less self.old) }
     {
         self.more = self.more.saturating_sub(1);
         if self.more == 0 {
@@ -202,7 +202,7 @@ impl LedgersReader {
 
     /// Has the ledger at hand take a line of that kind in place, where it can.
     fn take(&mut self, kind: Kind, line: &[u8]) -> Result<bool, NoMemory>
-        ensures taken { IfOk result (λ t. t ≡ true → (l : LedgerSoFar) → self.old.stage ≡ Reading l → IsTaken kind line.now l self.old self.new) }
+        ensures taken { IfOk result (λ t. t ≡ true → (l : LedgerSoFar) → self.old.stage ≡ Reading l → HasTakenLine kind line.now l self.old self.new) }
         ensures left { IfOk result (λ t. t ≡ false → self.new ≡ self.old) }
     {
         match &mut self.stage {

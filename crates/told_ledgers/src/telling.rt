@@ -25,8 +25,8 @@ fn push_line(reader: &mut LedgersReader, number: u32, line: &[u8]) -> Result<(),
     }
 }
 
-/// What is told to a party of each arc's ledger by these lines, from the first ledger's to the last
-/// line, of which the first has that number in its text.
+/// What these lines, from the first ledger's to the last line, tell a party of each arc's ledger.
+/// The first of them has that number in its text.
 #[tactic(auto, unfolding(crate::specs::Telling::ledgers_told))]
 pub fn read_ledgers(
     alloc: Global,

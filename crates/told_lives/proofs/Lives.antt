@@ -48,7 +48,7 @@ use Rattle.wallet_promise.specs.Life.{IsMindful}
 use Rattle.wallet_promise.specs.Answers.{action_answers}
 use Rattle.wallet_promise.proofs.Living.{life_conducts, life_is_safe, attentive_is_safe}
 use Rattle.wallet_promise.proofs.Walking.{watchful_life_is_safe, mindful_is_safe}
-use Rattle.told_lives.specs.ToldLife.{Hearing, whole, as_needed, IsToldAnswered, IsToldLife, CameToRest, IsToldAttentive, HadActedOnTime, HadFinished, IsToldMindful}
+use Rattle.told_lives.specs.ToldLife.{Hearing, whole_asking, as_needed, IsToldAnswered, IsToldLife, CameToRest, IsToldAttentive, HadActedOnTime, HadFinished, IsToldMindful}
 use Rattle.told_lives.specs.Laws.{AnswersAreTold, BeginningsAreHeard, ToldLifeIsLife, ToldLifeIsToldLife, ToldLifeIsNeededLife, NothingIsGiven}
 use Rattle.told_lives.specs.Laws.{NothingIsCalledThere, IsWithinLimits, ToldIsLegal, ToldLifeConducts, ToldLifeIsSafe, ToldAttentiveIsSafe}
 use Rattle.told_lives.specs.Laws.{ToldWatchfulIsSafe, ToldMindfulIsSafe}
@@ -102,7 +102,7 @@ module _ (d : Deal) (v : ℕ) (w : Wallet) (b : Histories) (hs : List Hearing) (
   same_behind : (h : Hearing) → IsElement h hs → (signed : ℕ → Option Hashkey) → due d v w signed h.asking.known ≡ due d v w signed h.behind
   same_behind h i signed = enough.same_due d v h.asking.known h.behind (life.told h i).says w signed
 
-  pub whole_life : IsLife d v w b (map whole hs) kept
+  pub whole_life : IsLife d v w b (map whole_asking hs) kept
   whole_life = record {
     journal = journal_as d v w (λ h. h.behind) nothing_kept hs kept same_behind life.journal;
     told =
@@ -111,8 +111,8 @@ module _ (d : Deal) (v : ℕ) (w : Wallet) (b : Histories) (hs : List Hearing) (
     calls =
         λ a past e c m k. let i = life.calls a past e c m k in
         record {
-          asking = whole i.hearing;
-          asked = in_map whole hs i.hearing i.heard;
+          asking = whole_asking i.hearing;
+          asked = in_map whole_asking hs i.hearing i.heard;
           may = may_go d v w (λ h. h.behind) i.hearing (record { arc = a; call = c }) (same_behind i.hearing i.heard) i.may;
           later = i.later;
         };

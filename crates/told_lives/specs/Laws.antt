@@ -19,7 +19,7 @@ use Rattle.swap_rules.specs.Walking.{IsWatchful}
 use Rattle.told_books.specs.WithoutNoise.{tellings, is_useless, all_needed, SayEnough, IsNeededBook, MakesNoTransfer}
 use Rattle.wallet_promise.specs.Life.{Asking, answer, IsLife}
 use Rattle.wallet_promise.specs.Answers.{answers}
-use Rattle.told_lives.specs.ToldLife.{Hearing, whole, without_noise, as_needed, IsHeard, IsToldLife, IsToldAttentive, IsToldMindful}
+use Rattle.told_lives.specs.ToldLife.{Hearing, whole_asking, without_noise, as_needed, IsHeard, IsToldLife, IsToldAttentive, IsToldMindful}
 
 -- what is answered goes by what is said alone
 abbrev pub AnswersAreTold : Type 0
@@ -39,15 +39,15 @@ BeginningsAreHeard =
 abbrev pub ToldLifeIsLife : Type 0
 ToldLifeIsLife =
     (d : Deal) (v : ℕ) (w : Wallet) (b : Histories) (hearings : List Hearing) (kept : ℕ → Option Hashkey) → IsToldLife d v w b hearings kept
-    → IsLife d v w b (map whole hearings) kept
+    → IsLife d v w b (map whole_asking hearings) kept
 
--- and a life in what is told of the book
+-- a told life is a told life in what is told of the book
 abbrev pub ToldLifeIsToldLife : Type 0
 ToldLifeIsToldLife =
     (d : Deal) (v : ℕ) (w : Wallet) (b : Histories) (hearings : List Hearing) (kept : ℕ → Option Hashkey) → IsToldLife d v w b hearings kept
     → IsLife d v w (tellings v b) (map (without_noise v) hearings) kept
 
--- and a life in what v needs of the book
+-- a told life is a told life in what v needs of the book
 abbrev pub ToldLifeIsNeededLife : Type 0
 ToldLifeIsNeededLife =
     (d : Deal) (v : ℕ) (w : Wallet) (b : Histories) (hearings : List Hearing) (kept : ℕ → Option Hashkey) → IsToldLife d v w b hearings kept
@@ -59,8 +59,9 @@ NothingIsGiven =
     (d : Deal) (v : ℕ) (w : Wallet) (b : Histories) (hearings : List Hearing) (kept : ℕ → Option Hashkey) → IsToldLife d v w b hearings kept
     → (a : ℕ) → MakesNoTransfer v (history b a)
 
--- and no call on an arc that enters it, doesn't leave it, and in the end has no accepted publish of
--- the correct terms: the arc is useless, so of its ledger nothing is needed but the ticks
+-- the party makes no call on an arc that enters it, doesn't leave it, and in the end has no
+-- accepted publish of the correct terms: the arc is useless, so of its ledger nothing is needed but
+-- the ticks
 abbrev pub NothingIsCalledThere : Type 0
 NothingIsCalledThere =
     (d : Deal) (v : ℕ) (w : Wallet) (b : Histories) (hearings : List Hearing) (kept : ℕ → Option Hashkey) (a : ℕ) → IsToldLife d v w b hearings kept
@@ -89,7 +90,7 @@ ToldIsLegal = OfEveryToldLife (λ d v w b hearings. IsLegalBook d (all_needed d 
 abbrev pub ToldLifeConducts : Type 0
 ToldLifeConducts = OfEveryToldLife (λ d v w b hearings. IsConducted d b v)
 
--- and safe, where the book has ended and the party was nowhere late
+-- the party is safe where the book has ended and the party was nowhere late
 abbrev pub ToldLifeIsSafe : Type 0
 ToldLifeIsSafe = OfEveryToldLife (λ d v w b hearings. IsEnded d b → IsOnTime d b v → IsSafe d b v)
 
@@ -98,7 +99,7 @@ abbrev pub ToldAttentiveIsSafe : Type 0
 ToldAttentiveIsSafe =
     OfEveryToldLife (λ d v w b hearings. IsToldAttentive d v w b hearings → IsOnTime d b v × (IsEnded d b → IsSafe d b v))
 
--- and safe, where it was watchful, whatever it published or left out
+-- the party is safe where it was watchful, whatever it published or left out
 abbrev pub ToldWatchfulIsSafe : Type 0
 ToldWatchfulIsSafe = OfEveryToldLife (λ d v w b hearings. IsWatchful d b v → IsSafe d b v)
 

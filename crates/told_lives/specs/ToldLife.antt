@@ -1,4 +1,4 @@
--- A wallet's life in a book of which it tells no noise, and of useless arcs no more than the ticks.
+-- A wallet's life in a book, where the wallet tells no noise, and of useless arcs only the ticks.
 use Rattle.std.specs.Prelude.{◌≡◌, ℕ, ◌<◌, ◌+◌, ◌≤◌, true, false, List, [], length, map, Option, Some}
 use Rattle.swap_base.specs.Lists.{IsElement, IsMoment}
 use Rattle.swap_digraph.specs.Graph.{arcs}
@@ -27,8 +27,8 @@ pub record Hearing : Type 0 where
   pub behind : Histories
 
 -- the asking that tells all that the ledgers had done
-abbrev pub whole : Hearing → Asking
-whole h = record { known = h.behind; kept = h.asking.kept }
+abbrev pub whole_asking : Hearing → Asking
+whole_asking h = record { known = h.behind; kept = h.asking.kept }
 
 -- the asking that tells all of it but noise
 abbrev pub without_noise : ℕ → Hearing → Asking

@@ -25,7 +25,7 @@ use Rattle.told_ledgers.specs.SoFar.{LedgerSoFar}
 use Rattle.told_ledgers.specs.Words.{line_kind}
 use Rattle.told_ledgers.specs.Ledger.{line_heard, nothing_read, whole_told_ledger, untold}
 use Rattle.told_ledgers.specs.Telling.{Telling, arc_said, begun_at_heading, frame_told, with_heard, heading_said, heading_words, ledgers_told, next_number}
-use Rattle.told_ledgers.specs.Telling.{unless_bad_line, passing, reading, further_lines_told}
+use Rattle.told_ledgers.specs.Telling.{unless_bad_line, passing, reading_ledger, further_lines_told}
 use Rattle.told_ledgers.proofs.Kept.{HeardSame, IsSame, heard_same}
 use Rattle.told_readings.specs.Apart.{AreAscending, EachIsToldAlone, LedgerLines, all_heard, all_lines, heading_line, heard_ledger, ledger_alone, then_heard}
 use Rattle.told_readings.specs.Apart.{with_ledger}
@@ -72,7 +72,7 @@ module _ (d : Deal) (v : ℕ) where
 
   -- which are read
   read_on : (n at : ℕ) (ts : List ToldLedger) (least count a : ℕ) (l : LedgerSoFar) (ls rest : List (List ℕ)) (h : Heard) → l.arc ≡ a → HeardSame l h
-      → ((t : LedgerSoFar) → IsSame l t → further_lines_told (next_number n) (reading t (at_hand ts least count (length ls) (Reading l))) (ls ++ rest)
+      → ((t : LedgerSoFar) → IsSame l t → further_lines_told (next_number n) (reading_ledger t (at_hand ts least count (length ls) (Reading l))) (ls ++ rest)
       ≡ further_lines_told (after (next_number n) (length ls)) (at_hand (heard_all ts a (all_heard (at + 1) t ls)) least count 0 Between) rest)
       → further_lines_told (next_number n) (with_heard l.arc h (at_hand ts least count (length ls) (Reading l))) (ls ++ rest)
       ≡ further_lines_told (after (next_number n) (length ls)) (at_hand (heard_all ts a (then_heard h (λ t. all_heard (at + 1) t ls))) least count 0 Between) rest
@@ -83,7 +83,7 @@ module _ (d : Deal) (v : ℕ) where
 
   read_over : (n at : ℕ) (ts : List ToldLedger) (least count a : ℕ) (stage : Stage) (l : LedgerSoFar) (ls rest : List (List ℕ)) → l.me ≡ v → l.arc ≡ a
       → at + length ls ≡ count
-      → further_lines_told n (reading l (at_hand ts least count (length ls) stage)) (ls ++ rest)
+      → further_lines_told n (reading_ledger l (at_hand ts least count (length ls) stage)) (ls ++ rest)
       ≡ further_lines_told (after n (length ls)) (at_hand (heard_all ts a (all_heard at l ls)) least count 0 Between) rest
   read_over n at ts least count a stage l [] rest me is sum =
       ap (λ (c : ℕ). further_lines_told n (at_hand (set ts c (heard_ledger (More l))) least count 0 Between) rest) is
@@ -142,7 +142,7 @@ module _ (d : Deal) (v : ℕ) where
   begun_is n ts least m c b rest u low = by (touches d v b.arc)
     where
       by : (t : Bool)
-          → further_lines_told n (cond t (reading (nothing_read d v b.arc) (at_hand ts (b.arc + 1) (length b.lines) (length b.lines) Between))
+          → further_lines_told n (cond t (reading_ledger (nothing_read d v b.arc) (at_hand ts (b.arc + 1) (length b.lines) (length b.lines) Between))
           (passing (at_hand ts (b.arc + 1) (length b.lines) (length b.lines) Between))) (b.lines ++ rest)
           ≡ further_lines_told (after n (length b.lines)) (at_hand (set ts b.arc (cond t (heard_ledger (all_heard 0 (nothing_read d v b.arc) b.lines)) untold))
           (b.arc + 1) (length b.lines) 0 Between) rest

@@ -69,7 +69,7 @@ nothing_in zero c = refl
 nothing_in (suc n) zero = refl
 nothing_in (suc n) (suc c) = nothing_in n c
 
--- the histories of a book of which all but one are empty
+-- the histories of a book that has entries on one arc alone
 abbrev alone : Deal → ℕ → List Entry → Histories
 alone d a h = set (replicate (length d.graph.arcs) []) a h
 

@@ -407,7 +407,7 @@ module _ (d : Deal) (v a : ℕ) (small : v < 256) (h : List Entry) (u : IsUseles
   entry_step n past more k us e line (Tick j) is i ew s = tick_step n past more k us e line j is i ew (s.0 (ap (λ (x : What). is_ticking x) ew))
   entry_step n past more k us e line (Made c) is i ew s = call_step n past more k us e line c is i ew (s.1 (ap (λ (x : What). is_ticking x) ew))
 
-  -- and those behind it
+  -- one entry and those behind it
   then_idle : (n : ℕ) (ls : List (List ℕ)) (s : LedgerSoFar) (b : Bool) (x : Heard) → s.deal ≡ d → s.me ≡ v → s.arc ≡ a → HeardSame s x
       → StaysIdle v b x → ((k : List Entry) (us : List OwnUnlock) → IsIdle v k → IsIdle v (heard_ledger (all_heard (n + 1) (now k us b) ls)).history)
       → IsIdle v (heard_ledger (then_heard x (λ t. all_heard (n + 1) t ls))).history

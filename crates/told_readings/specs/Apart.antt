@@ -18,8 +18,8 @@ abbrev pub then_heard : Heard → (LedgerSoFar → Heard) → Heard
 then_heard (More s) f = f s
 then_heard (Bad t) f = Bad t
 
--- what further lines make of a ledger, the first of which is its line n; behind its bad entry none
--- is read
+-- what further lines make of a ledger, where the first of them is its line n; behind its bad entry
+-- no line is read
 abbrev pub all_heard : ℕ → LedgerSoFar → List (List ℕ) → Heard
 all_heard n s [] = More s
 all_heard n s (l ∷ ls) = then_heard (line_heard n s (line_kind s.me (separated_parts 32 l)) l) (λ t. all_heard (n + 1) t ls)

@@ -1,5 +1,4 @@
-//! What a wallet's telling of its ledgers comes to: each ledger is told by itself, and what is told
-//! says enough.
+//! What a wallet tells of its ledgers: each ledger is told by itself, and what is told says enough.
 //!
 //! Read `specs/Apart.antt` first, then `specs/Enough.antt`, `specs/Written.antt` and
 //! `specs/Bounded.antt`.

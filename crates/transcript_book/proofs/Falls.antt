@@ -56,7 +56,7 @@ the_rest text at = take_all (length text - at) (drop at text) (omega (arith, len
 begins : (xs : List (List ℕ)) (w : List ℕ) (ys : List (List ℕ)) → xs ≡ w ∷ ys → xs ≡ w ∷ drop 1 xs
 begins xs w ys is = is ∙ ap (λ (l : List (List ℕ)). w ∷ drop 1 l) (sym is)
 
--- the same of the next part, which stays to come
+-- the next part, which stays to come, where the byte stands next at end
 pub peeked_found : (b at end : ℕ) (text rest : List ℕ) (over : Bool) → over ≡ false → rest ≡ drop at text
     → NoneBefore (Passes (is_byte b) rest) 0 (length rest) end → Passes (is_byte b) rest end
     → cond over [] (separated_parts b (drop at text)) ≡ take end rest ∷ drop 1 (cond over [] (separated_parts b (drop at text)))

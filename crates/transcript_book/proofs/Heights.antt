@@ -18,7 +18,7 @@ use Rattle.ledger_core.specs.WellFormed.{written_height}
 use Rattle.transcript_lines.specs.declared.said.Said.{Said}
 use Rattle.transcript_lines.specs.declared.said.Misspelling.{Misspelling}
 use Rattle.transcript_lines.specs.Reading.{line_said, misspelt}
-use Rattle.transcript_book.specs.Entries.{parse_entry, placed, placed_entry}
+use Rattle.transcript_book.specs.Entries.{parse_entry, said_entry, placed_entry}
 
 -- a height that is held, and then more
 pub held_again : (n k : ℕ) → written_height (written_height n + k) ≡ written_height (n + k)
@@ -60,6 +60,6 @@ pub read_height : (d : Deal) (a : ℕ) (past : List Entry) (at : ℕ) (line : Li
 unfolding parse_entry
 read_height d a past at line e is k = by (line_said (length d.leaders) line) k
   where
-    by : (r : Result Said Misspelling) → (r >>= λ s. placed d a at s) ≡ Ok e → IsHeightOf past e
+    by : (r : Result Said Misspelling) → (r >>= λ s. said_entry d a at s) ≡ Ok e → IsHeightOf past e
     by (Ok s) q = placed_height d a past at s.reply s.sender s.what e is q
     by (Err f) q = absurd (cc q)

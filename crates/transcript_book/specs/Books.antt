@@ -12,7 +12,7 @@ use Rattle.transcript_book.specs.Stages.{BookSoFar, line_read, no_ledgers}
 abbrev pub whole : Job → Histories → BookSoFar
 whole job b = record { job = job; book = b; entries = []; more = 0; place = Over }
 
--- what is read of lines of which the last is the last line of a transcript
+-- what is read of lines that end with the last line of a transcript
 pub record IsWholeBook (job : Job) (ls : List (List ℕ)) (t : BookSoFar) : Type 0 where
   pub read : t ≡ whole job t.book
   pub lines : ls ≡ lines_from_arc 0 t.book

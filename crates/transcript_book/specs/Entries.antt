@@ -23,12 +23,12 @@ placed_entry d a at reply (Party p) (Made c) = if touches d p a && fit d a c the
 placed_entry d a at reply Clock (Tick k) = if nat_le 1 k && nat_le k 1000000 then Ok (tick_entry k (written_height (at + k)) reply) else misspelt
 placed_entry d a at reply _ _ = misspelt
 
-abbrev pub placed : Deal → (a at : ℕ) → Said → Result Entry Misspelling
-placed d a at s = placed_entry d a at s.reply s.sender s.what
+abbrev pub said_entry : Deal → (a at : ℕ) → Said → Result Entry Misspelling
+said_entry d a at s = placed_entry d a at s.reply s.sender s.what
 
 -- the entry of arc a that a line states at a height
 unfoldable pub parse_entry : Deal → (a at : ℕ) → List ℕ → Result Entry Misspelling
-parse_entry d a at line = line_said (length d.leaders) line >>= λ s. placed d a at s
+parse_entry d a at line = line_said (length d.leaders) line >>= λ s. said_entry d a at s
 
 -- the entry of arc a that a line states after those before it
 abbrev pub parse_next_entry : Deal → ℕ → List Entry → List ℕ → Result Entry Misspelling

@@ -7,8 +7,8 @@ use Rattle.transcript_book.specs.declared.place.Place.TheVariants.{Entries}
 use Rattle.transcript_book.specs.declared.reader.BookReader.TheInside.{Inside}
 use Rattle.transcript_book.specs.Stages.{BookSoFar}
 
-abbrev pub so_far : Inside → BookSoFar
-so_far r = record { job = r.job; book = r.histories.items; entries = r.entries; more = r.more; place = r.place }
+abbrev pub book_so_far : Inside → BookSoFar
+book_so_far r = record { job = r.job; book = r.histories.items; entries = r.entries; more = r.more; place = r.place }
 
 -- The height is that of the entries; there is room for one history per arc, and for the one that is
 -- read.

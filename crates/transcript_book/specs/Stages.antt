@@ -27,7 +27,7 @@ pub record BookSoFar : Type 0 where
 abbrev pub no_ledgers : Job → BookSoFar
 no_ledgers job = record { job = job; book = []; entries = []; more = 0; place = Ledger }
 
--- a ledger of which no entry is to come was read whole
+-- a ledger was read whole where no entry of it is to come
 abbrev pub with_whole : Bool → BookSoFar → BookSoFar
 with_whole true s = record { job = s.job; book = s.book ++ s.entries ∷ []; entries = []; more = 0; place = Ledger }
 with_whole false s = s

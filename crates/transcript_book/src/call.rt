@@ -15,7 +15,7 @@ use ledger_core::Call;
 use std::alloc::Global;
 use swap_base::Shared;
 
-/// So many digests, a field each.
+/// Takes this many digests, a field each.
 fn parse_locks(count: usize, fields: &mut Parts<'_>) -> Result<LockList, WordFault>
     requires { count ≤ 8 }
     ensures { Takes (λ l. l) result fields.new (parse_locks count fields.old) }

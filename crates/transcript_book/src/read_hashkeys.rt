@@ -65,7 +65,7 @@ fn held_once(
     Ok(key)
 }
 
-/// The same entry, whose hashkey is held once.
+/// The entry as it is, with its hashkey held once.
 pub fn with_known(known: &mut Known, entry: Entry) -> Result<Entry, NoMemory>
     ensures { IfOk result (λ e. e ≡ entry) }
 {

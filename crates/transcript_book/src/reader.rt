@@ -36,9 +36,9 @@ impl Model for BookReader {
 
     ghost Value = { BookSoFar };
 
-    ghost use Rattle.transcript_book.specs.Inside.{so_far, IsReading};
+    ghost use Rattle.transcript_book.specs.Inside.{book_so_far, IsReading};
 
-    ghost view = { so_far };
+    ghost view = { book_so_far };
 
     ghost invariant = { IsReading };
 }

@@ -5,7 +5,7 @@ ghost use Rattle.swap_base.specs.Fault.{Gives};
 ghost use Rattle.swap_digraph.specs.Deal.{IsWellSized};
 ghost use Rattle.ledger_core.specs.declared.entry.Sender.TheVariants.{Party, Clock};
 ghost use Rattle.ledger_core.specs.declared.entry.What.TheVariants.{Call as Made, Tick};
-ghost use Rattle.transcript_book.specs.Entries.{parse_entry, placed, placed_entry};
+ghost use Rattle.transcript_book.specs.Entries.{parse_entry, said_entry, placed_entry};
 
 use crate::entry::read_entry;
 use crate::number::{WordFault, misspelt};
@@ -63,7 +63,7 @@ fn place_tick(
 /// The entry that is said at a height.
 fn place(deal: &Deal, arc: ArcId, height: u32, said: Said) -> Result<Entry, WordFault>
     requires { arc < length deal.now.graph.arcs }
-    ensures { Gives (λ e. e) result (placed deal.now arc height said) }
+    ensures { Gives (λ e. e) result (said_entry deal.now arc height said) }
 {
     match (said.sender, said.what) {
         (Sender::Party(p), What::Call(call)) => place_call(deal, arc, height, p, call, said.reply),

@@ -29,7 +29,7 @@ pub record IsTranscriptJob (job : Job) : Type 0 where
   pub seeds : (p : ℕ) → party_seed job p ≡ None
   pub finish : job.finish ≡ Stop
 
--- the job with the ledgers that are read is one of which a transcript tells
+-- where ledgers are read, their job is one that a transcript tells about
 abbrev pub IsToldStage : Stage → Type 0
 IsToldStage (Ledgers s) = IsTranscriptJob s.job
 IsToldStage _ = Unit {0}

@@ -32,7 +32,7 @@ unless_long bytes answer = if nat_lt limit bytes then Err TooLong else answer
 abbrev pub story_so_far : BookSoFar → Story
 story_so_far s = record { job = s.job; book = s.book }
 
--- the book of ledgers of which the last line was read
+-- the job and the book that were read, or CutShort where the last line of the ledgers wasn't
 abbrev pub told : BookSoFar → Result Story TranscriptReason
 told s = if is_finished s.place then Ok (story_so_far s) else Err CutShort
 

@@ -46,7 +46,7 @@ fn copy_reason(reason: &Reason) -> Result<Reason, NoMemory>
     }
 }
 
-/// The same reason, with the same names.
+/// A copy of a refusal: its reason with its names.
 pub(crate) fn copy_refusal(refusal: &Refusal) -> Result<Refusal, NoMemory>
     ensures { IfOk result (λ r. r ≡ refusal.now) }
 {

@@ -23,7 +23,7 @@ use Rattle.offer_events.specs.Event.{event_of_tick, event_of_look, event_of_act,
 use Rattle.offer_events.specs.Event.{conforming_crash, event_of_crash}
 use Rattle.swap_job.specs.declared.event.Event.{Event}
 use Rattle.swap_job.specs.declared.event.Event.TheVariants as event_kinds
-use Rattle.offer_events.specs.Event.{checked_event, outside_race, asked, parse_event}
+use Rattle.offer_events.specs.Event.{checked_event, outside_race, asked_event, parse_event}
 use Rattle.offer_events.specs.declared.raw.RawEvent.TheVariants as raws
 use Rattle.swap_job.specs.declared.job.Purpose.TheVariants as purpose_kinds
 use Rattle.swap_job.specs.declared.moves.Move.TheVariants as move_kinds
@@ -156,8 +156,8 @@ conforming_crash_bare conforming line (event_kinds.Look a1 a2) = landed _
 conforming_crash_bare conforming line (event_kinds.Act a1) = landed _
 conforming_crash_bare conforming line (event_kinds.Call a1 a2) = landed _
 
-pub asked_bare : (job : Job) (line : ℕ) (raw : RawEvent) → Bare (asked job line raw)
-unfolding asked
+pub asked_bare : (job : Job) (line : ℕ) (raw : RawEvent) → Bare (asked_event job line raw)
+unfolding asked_event
 asked_bare job line raw =
     onward (checked_event job line raw) _ (checked_bare job line raw)
     (λ event. onward (outside_race line job.purpose) _ (outside_race_bare line job.purpose)

@@ -14,20 +14,20 @@ use Rattle.offer_header.specs.declared.raw.RawParty.{RawParty}
 use Rattle.offer_header.specs.declared.raw.RawArc.{RawArc}
 use Rattle.offer_header.specs.declared.raw.RawLeader.{RawLeader}
 use Rattle.offer_header.specs.declared.raw.RawHeader.{RawHeader}
-use Rattle.offer_header.specs.Names.{is_name, known, all_known, move_known, strategy_known, actor_known, name_added, name_step, names_stated, named_ends}
+use Rattle.offer_header.specs.Names.{is_name, known_name, all_known, move_known, strategy_known, actor_known, name_added, name_step, names_stated, named_ends}
 use Rattle.offer_header.specs.Names.{leader_step, resolve_numbers, assign_checked_numbers, numbered_header}
 use Rattle.offer_moves.specs.declared.raw.RawMove.TheVariants as raw_kinds
 use Rattle.offer_header.specs.declared.raw.RawActor.TheVariants as actor_kinds
 use Rattle.true_refusals.proofs.Bare.{Bare, onward, landed, refused, choose, each_of_bare, steps_bare}
 use Rattle.true_refusals.proofs.Fields.{party_of_name_bare}
 
-pub known_bare : (line : ℕ) (all : List (List ℕ)) (name : List ℕ) → Bare (known line all name)
-unfolding known
+pub known_bare : (line : ℕ) (all : List (List ℕ)) (name : List ℕ) → Bare (known_name line all name)
+unfolding known_name
 known_bare line all name = choose (list_any (bytes_eq name) all) _ _ (landed _) (refused (Unknown line name) tt)
 
 pub all_known_bare : (line : ℕ) (all : List (List ℕ)) (names : List (List ℕ)) → Bare (all_known line all names)
 unfolding all_known
-all_known_bare line all names = steps_bare (λ u name. known line all name) (λ u name. known_bare line all name) tt names
+all_known_bare line all names = steps_bare (λ u name. known_name line all name) (λ u name. known_bare line all name) tt names
 
 pub move_known_bare : (line : ℕ) (all : List (List ℕ)) (x2 : RawMove) → Bare (move_known line all x2)
 move_known_bare line all (Craft n craft) = all_known_bare line all craft.via

@@ -22,7 +22,7 @@ use Rattle.command_input.specs.Lines.{filled_lines, collect_lines}
 use Rattle.swap_offer.proofs.Certified.{certifies}
 use Rattle.command_input.specs.Written.{Written}
 use Rattle.made_jobs.specs.Making.{made_text}
-use Rattle.swap_commands.specs.Output.{collected_book, output_given_chance, job_output, plain_text, command_purpose, reported, told, Chance}
+use Rattle.swap_commands.specs.Output.{collected_book, output_given_chance, job_output, plain_text, command_purpose, reported, written_check, Chance}
 use Rattle.swap_commands.specs.Words.{OfJob, JobCommand, Check, Make, Race, Run}
 use Rattle.true_refusals.specs.Laws.{NamedCyclesAreOfFollowers, NamedSetsAreClosed, Proposes}
 use Rattle.true_refusals.proofs.Bare.{choose, landed, onward, refused, steps_bare, Bare, IsBare}
@@ -121,7 +121,7 @@ from_output : (chance : Chance) (command : JobCommand) (ls : List (ℕ × List �
     → job_output chance command ls read ≡ Err reason → read ≡ Err reason
 from_output chance (Run transcript) ls read reason e = from_read (λ j. reported transcript j.0 (collected_book chance.answers j.0 j.1)) read reason e
 from_output chance (Race ticks transcript) ls read reason e = from_read (λ j. reported transcript j.0 chance.book) read reason e
-from_output chance Check ls read reason e = from_read (λ j. told j.0) read reason e
+from_output chance Check ls read reason e = from_read (λ j. written_check j.0) read reason e
 from_output chance Make ls read reason e = from_read (λ j. plain_text (made_text j.0 (drop 1 ls))) read reason e
 
 offer_refused : (has : List ℕ → Bool) (chance : Chance) (command : JobCommand) (input : List ℕ) (reason : Reason)

@@ -1,4 +1,4 @@
--- Bytes of a list of which a range was written or torn.
+-- Bytes of a list after a range of it was written or torn.
 use Rattle.std.proofs.Common.{◌≡◌, ℕ, zero, suc, ◌+◌, ◌-◌, ◌≤◌, ◌<◌, List, [], ◌∷◌, ◌++◌, length, take, drop, get_or, refl, sym, ◌∙◌, ap, arith}
 use Rattle.std.proofs.Common.{length-append, length-drop}
 use Rattle.std.proofs.lemmas.List.{take_at, drop_at, take-take, drop-drop, length-take-le, get_or-take, get_or-drop}
@@ -57,7 +57,7 @@ module _ (old : List ℕ) (at : ℕ) (bytes : List ℕ) (fits : at + length byte
   pub drop_written : drop at (written old at bytes) ≡ bytes ++ drop (at + length bytes) old
   drop_written = behind
 
-  -- and nothing else changed
+  -- nothing changed beside what was written
   pub written_torn : Torn at (length bytes) old (written old at bytes)
   written_torn = record {
     before = take_at (take at old) (bytes ++ drop (at + length bytes) old) at size;

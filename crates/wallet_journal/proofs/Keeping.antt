@@ -37,7 +37,7 @@ module _ (bytes : List ℕ) (may_leave : List ℕ → Type 0) (loose : List Writ
   pub shows_lock : (k : Hashkey) → listed_hashkey signed i ≡ Some k → k.lock ≡ i
   shows_lock k is = recorded_lock bytes i k (shows ∙ is)
 
--- and what a crash leaves of it
+-- what a crash leaves of a journal that is kept
 pub made_calls : (bytes : List ℕ) (may_leave : List ℕ → Type 0) (loose : List Write) (id : List ℕ) (me : ℕ) (signed : List (Option Hashkey))
     → IsKeptJournal bytes may_leave loose id me signed → (c : List ℕ) → may_leave c → IsMadePartyJournal id me c
 made_calls bytes may_leave loose id me signed kept c left =

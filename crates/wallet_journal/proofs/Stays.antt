@@ -1,4 +1,4 @@
--- A disk of which no call was made but one that takes memory.
+-- A disk stays as it was where the only calls on it take memory.
 use Rattle.std.proofs.Common.{◌≡◌, ℕ, List, inl, refl, sym, ◌∙◌, subst}
 use Rattle.hashkey_path.specs.declared.hashkey.Hashkey.{Hashkey}
 use Rattle.wallet_journal.specs.Device.{Write, IsStill, IsUntouched, Elapses, LeavesOnly, AddsNone}
@@ -27,7 +27,7 @@ stays moment left_since old new was now loose bytes k only_now still adds time =
     (started moment left_since old (IsInRecord bytes k) (λ c left. here_still bytes c k (still.only c (only_now c left))))
     time (λ c left. here_still bytes c k (still.only c (adds c left)))
 
--- and where nothing was called
+-- what a crash leaves where nothing was called
 pub untouched : {D : Type 0} (moment : D → ℕ) (left_since : D → ℕ → List ℕ → Type 0) (old : D) (was : List ℕ → Type 0) (loose : List Write) (bytes : List ℕ)
     (k : Hashkey)
     → ((c : List ℕ) → left_since old (moment old) c → was c) → IsStill bytes was loose → LeavesOnly moment left_since old old (IsInRecord bytes k)

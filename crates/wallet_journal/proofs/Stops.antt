@@ -94,7 +94,7 @@ pub every_err : {A E : Type 0} {P : E → Type 0} (r : Result A E) → ((e : E) 
 every_err (Ok x) f = tt
 every_err (Err e) f = f e
 
--- the same from what the record left of its writes
+-- what holds of each fault, from what the record left of its writes
 module _ (k : Hashkey) (ws : List Write) (bytes : List ℕ) (of : IsOfWrites bytes ws) (is_there : is_made bytes ≡ true) (lt : k.lock < 8)
     (unrecorded : recorded bytes k.lock ≡ None) (few : length k.path ≤ 32) (paired : length k.sigs ≡ length k.path) (told : HasWholeParts k) where
   made_of : is_made (after_writes no_bytes ws) ≡ true

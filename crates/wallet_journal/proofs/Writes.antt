@@ -36,7 +36,7 @@ pub after_push : (bytes : List ℕ) (ws : List Write) (w : Write) → after_writ
 after_push bytes [] w = refl
 after_push bytes (v ∷ ws) w = after_push (written bytes v.at v.bytes) ws w
 
--- and after two lists
+-- the bytes after two lists of writes
 pub after_both : (bytes : List ℕ) (ws vs : List Write) → after_writes bytes (ws ++ vs) ≡ after_writes (after_writes bytes ws) vs
 after_both bytes [] vs = refl
 after_both bytes (w ∷ ws) vs = after_both (written bytes w.at w.bytes) ws vs

@@ -20,7 +20,7 @@ pub record Torn (at n : ℕ) (old new : List ℕ) : Type 0 where
   pub after : drop (at + n) new ≡ drop (at + n) old
   pub as_long : length new ≡ length old
 
--- each new outcome of a crash is an old outcome of which a range is torn
+-- each new outcome of a crash is an old outcome with a range torn
 abbrev pub Tears : ℕ → ℕ → (List ℕ → Type 0) → (List ℕ → Type 0) → Type 0
 Tears at n old new = (c : List ℕ) → new c → (d : List ℕ) × old d × Torn at n d c
 

@@ -33,7 +33,7 @@ pub record IsInRecord (old : List ℕ) (key : Hashkey) (c : List ℕ) : Type 0 w
   pub whole : MayHaveRecorded old key c
   pub own : (d : Deal) (me : ℕ) → FitsDeal d key → IsOwn d me old → IsOwn d me c
 
--- a fault that such a disk may give
+-- a fault that the party's own disk may give
 abbrev pub IsOwnFault : Unopened → Type 0
 IsOwnFault Foreign = ⊥
 IsOwnFault (Damaged i) = ⊥

@@ -12,7 +12,8 @@ abbrev pub IsRecordFault : ℕ → ℕ → List ℕ → List ℕ → (List ℕ �
 IsRecordFault before now old new may_leave loose DiskFault = Rose before now
 IsRecordFault before now old new may_leave loose NoMemory = IsStill new may_leave loose × (new ≡ old)
 
--- the same as callers see it: after want of memory the journal is as it was and sound
+-- a record that wasn't made, as callers see it: after want of memory the journal is as it was and
+-- sound
 abbrev pub IsRefusedRecord : ℕ → ℕ → RecordFault → List (Option Hashkey) → List (Option Hashkey) → Bool → Type 0
 IsRefusedRecord before now DiskFault old new sound = Rose before now
 IsRefusedRecord before now NoMemory old new sound = (sound ≡ true) × (new ≡ old)
@@ -36,8 +37,8 @@ IsStoppedRecording zero k synced synced' loose' = (synced' ≡ synced) × (loose
 IsStoppedRecording (suc zero) k synced synced' loose' = (synced' ≡ synced) × (loose' ≡ body_write k ∷ [])
 IsStoppedRecording (suc (suc n)) k synced synced' loose' = (synced' ≡ synced ++ body_write k ∷ []) × (loose' ≡ gate_write k ∷ [])
 
--- the same for what a record answers: it doesn't come to its end, and wants memory only before it
--- has written
+-- the writes of a record that stops, by what it answers: it doesn't reach its end, and wants memory
+-- only before it has written
 abbrev pub IsStoppedRecord : ℕ → Hashkey → List Write → List Write → List Write → Result (Unit {0}) RecordFault → Type 0
 IsStoppedRecord n k synced synced' loose' (Ok x) = ⊥
 IsStoppedRecord n k synced synced' loose' (Err DiskFault) = IsStoppedRecording n k synced synced' loose'

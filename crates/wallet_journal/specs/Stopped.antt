@@ -23,7 +23,7 @@ is_kept_after_crash n image = nat_le 2 n && (image == 1)
 abbrev pub kept_key : Hashkey → (n image : ℕ) → Option Hashkey
 kept_key k n image = if is_kept_after_crash n image then Some k else None
 
--- A disk reads as its writes, each of which lies on it.
+-- Each write lies on the disk, and the disk reads as its writes.
 pub record IsOfWrites (bytes : List ℕ) (writes : List Write) : Type 0 where
   pub on : AllByRecursion IsOnDisk writes
   pub reads : bytes ≡ after_writes no_bytes writes

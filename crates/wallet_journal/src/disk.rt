@@ -39,7 +39,7 @@ pub trait Disk {
     /// No call fails from now on.
     ghost never_fails: { Self → Type 0 };
 
-    /// So many calls pass before every later one fails; `ready` isn't counted.
+    /// This many calls pass before every later one fails; `ready` isn't counted.
     ghost stops_after: { Self → ℕ → Type 0 };
 
     /// Takes memory for calls to come, and leaves all as it was.

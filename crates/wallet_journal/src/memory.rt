@@ -74,7 +74,7 @@ impl MemoryDisk {
         self.failures.left = Some(k);
     }
 
-    /// The same disk: what a read gives is among what a crash may leave.
+    /// The disk as it is: what a read gives is among what a crash may leave.
     pub(crate) fn as_read(&self) -> &MemoryDisk
         ensures value { result.now ≡ self.now }
         ensures among { Leaves self.now.held (visible_bytes self.now.held) }

@@ -1,4 +1,4 @@
-//! What a wallet is promised that asks for each of its calls anew, and keeps nothing but hashkeys.
+//! What is promised to a wallet that asks before each of its calls and keeps nothing but hashkeys.
 //!
 //! Read `specs/Life.antt` first, then `specs/Laws.antt`, then `specs/Answers.antt`: all that is
 //! answered at once.

@@ -3,8 +3,8 @@ use Rattle.swap_job.specs.Resolved.{move_arc}
 use Rattle.deviators.proofs.Scripts.{all_from}
 use Rattle.deviators.proofs.script.after_waits.Goals as goal
 
-pub is_finished-requires-clause-arc : goal.is_finished-requires-clause-arc
-is_finished-requires-clause-arc c =
+pub is_wait_done-requires-clause-arc : goal.is_wait_done-requires-clause-arc
+is_wait_done-requires-clause-arc c =
     subst (λ mv. move_arc mv < length c.args.known.now.histories) (sym c.index-moves-at.is)
     (all_from (λ mv. move_arc mv < length c.args.known.now.histories) c.args.moves.now c.args.from c.loop-at.at c.index-moves-at.result
     c.requires.arcs c.loop-at.invariant.later c.loop-at-test.true)

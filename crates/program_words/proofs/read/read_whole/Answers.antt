@@ -1,5 +1,5 @@
 use Rattle.std.proofs.Common.{◌≡◌, ℕ, List, map, drop, string_bytes, sym, subst}
-use Rattle.program_words.specs.Words.{asked, AreNumbersInRange}
+use Rattle.program_words.specs.Words.{verb_task, AreNumbersInRange}
 use Rattle.program_words.proofs.Ranges.{asked_within}
 use Rattle.program_words.proofs.read.read_whole.Goals as goal
 
@@ -9,5 +9,5 @@ returns-in-Ok-clause-exact c = c.parse_task.ensures (map string_bytes (drop 1 c.
 pub returns-in-Ok-clause-within : goal.returns-in-Ok-clause-within
 returns-in-Ok-clause-within c =
     let words : List (List ℕ) = map string_bytes (drop 1 c.args.words.now) in
-    let is : c.parse_task.result ≡ asked c.args.verb words = c.parse_task.ensures words c.requires.whole c.in-Ok.ensures.read in
+    let is : c.parse_task.result ≡ verb_task c.args.verb words = c.parse_task.ensures words c.requires.whole c.in-Ok.ensures.read in
     subst AreNumbersInRange (sym is) (asked_within c.args.verb words c.requires.whole)

@@ -1,7 +1,7 @@
 use Rattle.std.proofs.Common.{◌≡◌, Ok, Err, map}
 use Rattle.std.proofs.lemmas.Result.{err_from_is_err_and}
 use Rattle.swap_world.specs.Value.{new_world}
-use Rattle.swap_many.specs.Opening.{opened}
+use Rattle.swap_many.specs.Opening.{opened_swaps}
 use Rattle.many_lines.proofs.Opening.{are_openable}
 use Rattle.swap_commands.proofs.ManyWorlds.{are_opened, fails_placed, is_lacking, known_lack, lack_fails, named_lack}
 use Rattle.swap_commands.proofs.many.open.Goals as goal
@@ -21,7 +21,7 @@ overdrawn-requires-clause-chain c =
     let many = c.args.many.now in
     let places = c.in_ok-places.places in
     let lack = c.in-Err-Refused.lack in
-    let made : opened many.units (map new_world many.jobs) places ≡ Err lack =
+    let made : opened_swaps many.units (map new_world many.jobs) places ≡ Err lack =
     rw (c.as_slice.ensures, c.in_ok-worlds.ensures, c.in-Err-Refused.field-0-is) at c.in-Err-Refused.ensures in
     (named_lack many lack c.requires.chains (known_lack many places lack made)).0
 
@@ -30,7 +30,7 @@ overdrawn-requires-clause-account c =
     let many = c.args.many.now in
     let places = c.in_ok-places.places in
     let lack = c.in-Err-Refused.lack in
-    let made : opened many.units (map new_world many.jobs) places ≡ Err lack =
+    let made : opened_swaps many.units (map new_world many.jobs) places ≡ Err lack =
     rw (c.as_slice.ensures, c.in_ok-worlds.ensures, c.in-Err-Refused.field-0-is) at c.in-Err-Refused.ensures in
     (named_lack many lack c.requires.chains (known_lack many places lack made)).1
 
@@ -38,7 +38,7 @@ pub returns-in-Ok-clause-opened : goal.returns-in-Ok-clause-opened
 returns-in-Ok-clause-opened c =
     let many = c.args.many.now in
     let places = c.in_ok-places.places in
-    let made : opened many.units (map new_world many.jobs) places ≡ Ok c.in-Ok.world =
+    let made : opened_swaps many.units (map new_world many.jobs) places ≡ Ok c.in-Ok.world =
     rw (c.as_slice.ensures, c.in_ok-worlds.ensures) at c.in-Ok.ensures in
     are_opened many places c.in-Ok.world c.requires.swaps c.in_ok-places.ensures.placed c.in_ok-places.ensures.exact
     (are_openable many places c.requires.chains c.requires.swaps c.in_ok-places.ensures.placed) made
@@ -48,6 +48,6 @@ returns-in-Err-Refused-clause-refused c =
     let many = c.args.many.now in
     let places = c.in_ok-places.places in
     let lack = c.in-Err-Refused.lack in
-    let made : opened many.units (map new_world many.jobs) places ≡ Err lack =
+    let made : opened_swaps many.units (map new_world many.jobs) places ≡ Err lack =
     rw (c.as_slice.ensures, c.in_ok-worlds.ensures, c.in-Err-Refused.field-0-is) at c.in-Err-Refused.ensures in
     lack_fails many places lack c.overdrawn.result c.overdrawn.ensures (is_lacking many places lack c.in_ok-places.ensures.exact made)

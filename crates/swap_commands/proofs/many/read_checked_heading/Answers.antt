@@ -3,7 +3,7 @@ use Rattle.std.proofs.lemmas.Result.{err_from_is_err_and}
 use Rattle.offer_header.specs.Names.{has_strategy}
 use Rattle.many_lines.specs.Heading.{HeadingState, finish_told, nothing_headed}
 use Rattle.many_lines.specs.Whole.{HoldsEverySwap}
-use Rattle.command_input.specs.Input.{At, ahead, desk, fresh}
+use Rattle.command_input.specs.Input.{InputProgress, ahead, desk, fresh}
 use Rattle.swap_commands.specs.Many.{headed}
 use Rattle.swap_commands.proofs.ManyTold.{heading_cut, heading_next, heading_read, heading_step, heading_walk}
 use Rattle.swap_commands.proofs.ManyWorlds.{unread_holds}
@@ -20,7 +20,7 @@ lines-init g c =
     record {
       led = (
         0,
-        subst (λ (i : At). Led (heading_walk has) (desk left n fresh) nothing_headed (desk left n i) 0 c.in_ok-heading.heading) (sym first)
+        subst (λ (i : InputProgress). Led (heading_walk has) (desk left n fresh) nothing_headed (desk left n i) 0 c.in_ok-heading.heading) (sym first)
             (subst (λ (h : HeadingState). Led (heading_walk has) (desk left n fresh) nothing_headed (desk left n fresh) 0 h) (sym new)
             (led_none (heading_walk has) (desk left n fresh) nothing_headed (fits_fresh left fresh refl))),
       );

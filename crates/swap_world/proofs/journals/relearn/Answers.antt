@@ -10,11 +10,11 @@ arcs-init c = none_learnt c.args.deal.now (histories c.args.ledgers.now) c.args.
 
 pub arcs-preserved : goal.arcs-preserved
 arcs-preserved c =
-    one_learnt c.args.deal.now (histories c.args.ledgers.now) c.args.machine.now c.arcs.machine c.learn_near.new.machine c.arcs.arc
-    (omega (arith, c.arcs-test.true, ap (λ (l : List ArcEnds). length l) c.arcs-2.ensures)) c.arcs.invariant c.in_ok-learn_near.ensures.ok
+    one_learnt c.args.deal.now (histories c.args.ledgers.now) c.args.machine.now c.arcs.machine c.learn_if_adjacent.new.machine c.arcs.arc
+    (omega (arith, c.arcs-test.true, ap (λ (l : List ArcEnds). length l) c.arcs-2.ensures)) c.arcs.invariant c.in_ok-learn_if_adjacent.ensures.ok
 
-pub learn_near-requires-clause-none : goal.learn_near-requires-clause-none
-learn_near-requires-clause-none c = c.arcs.invariant.rest c.arcs.arc (omega arith)
+pub learn_if_adjacent-requires-clause-none : goal.learn_if_adjacent-requires-clause-none
+learn_if_adjacent-requires-clause-none c = c.arcs.invariant.rest c.arcs.arc (omega arith)
 
 pub returns-clause-ok : goal.returns-clause-ok
 returns-clause-ok c =

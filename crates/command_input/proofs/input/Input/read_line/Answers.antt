@@ -2,11 +2,11 @@ use Rattle.std.proofs.Common.{◌≡◌, ◌≤◌, ◌+◌, ◌∙◌, ℕ, Boo
 use Rattle.swap_io.specs.Lines.{Reading}
 use Rattle.swap_io.specs.declared.line_end.LineEnd.TheVariants.{Ended}
 use Rattle.swap_io.proofs.Feeds.{calm_after, not_past}
-use Rattle.command_input.specs.Input.{At, limit}
+use Rattle.command_input.specs.Input.{InputProgress, limit}
 use Rattle.command_input.proofs.Ahead.{counts_ended, fewer, reads_ended, reads_none, reads_rest}
 use Rattle.command_input.proofs.input.Input.read_line.Goals as goal
 
-abbrev at : Reading → ℕ → List ℕ → Bool → At
+abbrev at : Reading → ℕ → List ℕ → Bool → InputProgress
 at reading number text over = record { reading = reading; number = number; text = text; over = over }
 
 pub invariant_of-self-in-Ended : goal.invariant_of-self-in-Ended

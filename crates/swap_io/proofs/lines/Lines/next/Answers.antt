@@ -5,32 +5,32 @@ use Rattle.swap_io.proofs.lines.Lines.next.Goals as goal
 
 -- More bytes than may be were taken before.
 
-pub returns-then-is_past-clause-next : goal.returns-then-is_past-clause-next
-returns-then-is_past-clause-next g c = tt
+pub returns-then-exceeds_limit-clause-next : goal.returns-then-exceeds_limit-clause-next
+returns-then-exceeds_limit-clause-next g c = tt
 
-pub returns-then-is_past-clause-few : goal.returns-then-is_past-clause-few
-returns-then-is_past-clause-few g c = c.is_past.ensures.few
+pub returns-then-exceeds_limit-clause-few : goal.returns-then-exceeds_limit-clause-few
+returns-then-exceeds_limit-clause-few g c = c.exceeds_limit.ensures.few
 
-pub returns-then-is_past-clause-no_more : goal.returns-then-is_past-clause-no_more
-returns-then-is_past-clause-no_more g c = omega arith
+pub returns-then-exceeds_limit-clause-no_more : goal.returns-then-exceeds_limit-clause-no_more
+returns-then-exceeds_limit-clause-no_more g c = omega arith
 
-pub returns-then-is_past-clause-takes : goal.returns-then-is_past-clause-takes
-returns-then-is_past-clause-takes g c = ([], took_none _ _ _ refl refl)
+pub returns-then-exceeds_limit-clause-takes : goal.returns-then-exceeds_limit-clause-takes
+returns-then-exceeds_limit-clause-takes g c = ([], took_none _ _ _ refl refl)
 
-pub returns-then-is_past-clause-most : goal.returns-then-is_past-clause-most
-returns-then-is_past-clause-most g c = c.is_past.ensures.most
+pub returns-then-exceeds_limit-clause-most : goal.returns-then-exceeds_limit-clause-most
+returns-then-exceeds_limit-clause-most g c = c.exceeds_limit.ensures.most
 
-pub returns-then-is_past-clause-end : goal.returns-then-is_past-clause-end
-returns-then-is_past-clause-end g c = tt
+pub returns-then-exceeds_limit-clause-end : goal.returns-then-exceeds_limit-clause-end
+returns-then-exceeds_limit-clause-end g c = tt
 
-pub returns-then-is_past-clause-too_long : goal.returns-then-is_past-clause-too_long
-returns-then-is_past-clause-too_long g c = (λ _. c.is_past.ensures.past.0 c.if-is_past.true, λ _. refl)
+pub returns-then-exceeds_limit-clause-too_long : goal.returns-then-exceeds_limit-clause-too_long
+returns-then-exceeds_limit-clause-too_long g c = (λ _. c.exceeds_limit.ensures.past.0 c.if-exceeds_limit.true, λ _. refl)
 
-pub returns-then-is_past-clause-later : goal.returns-then-is_past-clause-later
-returns-then-is_past-clause-later g c = omega arith
+pub returns-then-exceeds_limit-clause-later : goal.returns-then-exceeds_limit-clause-later
+returns-then-exceeds_limit-clause-later g c = omega arith
 
-pub returns-then-is_past-clause-failed : goal.returns-then-is_past-clause-failed
-returns-then-is_past-clause-failed g c = λ e. absurd (cc e)
+pub returns-then-exceeds_limit-clause-failed : goal.returns-then-exceeds_limit-clause-failed
+returns-then-exceeds_limit-clause-failed g c = λ e. absurd (cc e)
 
 -- The line took no memory.
 

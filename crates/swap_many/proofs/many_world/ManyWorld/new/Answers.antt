@@ -3,7 +3,7 @@ use Rattle.swap_many.specs.Many.{many_start}
 use Rattle.swap_many.specs.Laws.{IsReadySetup}
 use Rattle.swap_many.specs.Sound.{Keeps}
 use Rattle.swap_many.specs.Opened.{overdrawn}
-use Rattle.swap_many.specs.Opening.{setup_of_worlds, new_many, opened}
+use Rattle.swap_many.specs.Opening.{setup_of_worlds, new_many, opened_swaps}
 use Rattle.swap_many.specs.Stages.{Stage, stretch_stages, staged_run}
 use Rattle.swap_many.specs.Value.{ManyState, made_setup, many_kept}
 use Rattle.swap_many.proofs.Begun.{was_opened}
@@ -17,7 +17,7 @@ invariant_of-result c =
     let ps = c.args.places in
     let cs = c.args.chains.now in
     let made = c.in-Ok.worlds in
-    let e : opened cs ws ps ≡ Ok made = c.in-Ok.ensures in
+    let e : opened_swaps cs ws ps ≡ Ok made = c.in-Ok.ensures in
     let k = was_opened (overdrawn (setup_of_worlds ws ps cs)) (new_many cs ws ps) made e in
     let ys : List Stage = stretch_stages (map (λ p. p.items) c.new-in-Ok.result.items) c.new-in-Ok-2.result.items in
     let none : ys ≡ [] = ap₂ (λ xs es. stretch_stages (map (λ p. p.items) xs) es) c.new-in-Ok.ensures c.new-in-Ok-2.ensures in

@@ -27,7 +27,7 @@ may g c =
       is = rw (← c.self.view_is) at c.accounts-left.ensures.value;
     }
 
--- and there is room for them
+-- there is room for the slot's units on their chain
 fits : (g : given.Over) (c : goal.After-index_mut-chain g)
     → sum_by (λ u. u) c.index_mut-chain.result.now.free + c.accounts-left.result.party + c.accounts-left.result.counterparty ≤ 10 ^ 18
 fits g c =

@@ -1,8 +1,8 @@
 use Rattle.std.proofs.Common.{ℕ, Bool, ◌==◌, ◌||◌, ◌∙◌, ap, sym}
 use Rattle.swap_digraph.specs.Deal.{party, counterparty}
 use Rattle.swap_digraph.proofs.Ranges.{filter_on, filter_off}
-use Rattle.swap_world.proofs.touching_arcs.arcs_near.Goals as goal
-use Rattle.swap_world.proofs.touching_arcs.arcs_near.Goals.{then-is_adjacent+in_ok-push, else-is_adjacent}
+use Rattle.swap_world.proofs.touching_arcs.adjacent_arcs.Goals as goal
+use Rattle.swap_world.proofs.touching_arcs.adjacent_arcs.Goals.{then-is_adjacent+in_ok-push, else-is_adjacent}
 
 pub arcs-preserved : goal.arcs-preserved
 arcs-preserved c =

@@ -1,6 +1,6 @@
 use Rattle.std.proofs.Common.{◌<◌, sym, subst}
 use Rattle.swap_world.proofs.Relearns.{begins_none}
-use Rattle.swap_world.proofs.journals.learn_near.Goals as goal
+use Rattle.swap_world.proofs.journals.learn_if_adjacent.Goals as goal
 
 pub learn-requires-clause-begins : goal.learn-requires-clause-begins
 learn-requires-clause-begins c =

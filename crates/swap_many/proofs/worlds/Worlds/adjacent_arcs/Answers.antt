@@ -1,6 +1,6 @@
 use Rattle.swap_world.proofs.On.{if_told}
 use Rattle.swap_many.proofs.Nearby.{are_near}
-use Rattle.swap_many.proofs.worlds.Worlds.near.Goals as goal
+use Rattle.swap_many.proofs.worlds.Worlds.adjacent_arcs.Goals as goal
 
 pub returns : goal.returns
 returns c =
