@@ -31,7 +31,7 @@ fn is_wrong_path(deal: &Deal, arc: ArcId, key: &Hashkey) -> bool
     }
 }
 
-/// What is wrong with the hashkey's path, or with the first of its signatures that is wrong.
+/// Whether the hashkey's path and signatures are right, or the first thing that is wrong with them.
 fn path_answer(deal: &Deal, arc: ArcId, key: &Hashkey, verified: usize) -> HashkeyAnswer
     requires sized { IsWellSized deal.now }
     requires arc { arc < length deal.now.graph.arcs }

@@ -10,8 +10,8 @@ use sha2::{Digest as Hasher, Sha256};
 use swap_base::{Digest, LockId, PartyId};
 use swap_digraph::{Deal, Mode};
 
-/// What a vertex of a hashkey's path signed and those after it: a suffix of the path, with the
-/// signatures over that suffix and the shorter ones.
+/// What is left of a hashkey from a vertex on: the suffix of its path that begins there, with the
+/// signatures over this suffix and the shorter ones.
 #[derive(Clone, Copy)]
 pub(crate) struct Suffix<'a> {
     pub lock: LockId,

@@ -2,52 +2,11 @@
 
 ghost use Rattle.std.specs.Prelude.{◌≡◌, ◌<◌, ◌&&◌, length};
 ghost use Rattle.swap_digraph.specs.Deal.{IsWellSized};
-ghost use Rattle.party_wallet.specs.Keys.{party_public};
-ghost use Rattle.party_wallet.specs.Fits.{has_key, is_stated, opens_own, fits_lock};
+ghost use Rattle.party_wallet.specs.Fits.{is_stated, opens_own};
 
 use hash_signature::{derive_secret, hashed_value};
 use swap_base::{Digest, LockId, PartyId};
 use swap_digraph::{Deal, Mode};
-
-/// Whether the key is the one that the deal states.
-fn is_stated(
-    deal: &Deal,
-    party: PartyId,
-    seed: &Digest,
-    lock: LockId,
-    public: &Option<Digest>,
-) -> bool
-    requires sized { IsWellSized deal.now }
-    requires mode { deal.now.mode ≡ Mode.Hashkeys }
-    requires party { party < deal.now.graph.n }
-    requires lock { lock < length deal.now.leaders }
-    requires public { public.now ≡ party_public Mode.Hashkeys seed.now party lock }
-    ensures { result ≡ has_key Mode.Hashkeys deal.now party seed.now lock }
-{
-    match public {
-        Some(key) => *key == deal.keys.as_slice()[party as usize].as_slice()[lock as usize],
-        None => false,
-    }
-}
-
-fn has_key(
-    deal: &Deal,
-    party: PartyId,
-    seed: &Digest,
-    lock: LockId,
-    public: &Option<Digest>,
-) -> bool
-    requires sized { IsWellSized deal.now }
-    requires party { party < deal.now.graph.n }
-    requires lock { lock < length deal.now.leaders }
-    requires public { public.now ≡ party_public deal.now.mode seed.now party lock }
-    ensures { result ≡ has_key deal.now.mode deal.now party seed.now lock }
-{
-    match deal.mode {
-        Mode::Timelocks => true,
-        Mode::Hashkeys => is_stated(deal, party, seed, lock, public),
-    }
-}
 
 fn opens_own(deal: &Deal, party: PartyId, seed: &Digest, lock: LockId) -> bool
     requires sized { IsWellSized deal.now }
@@ -56,23 +15,6 @@ fn opens_own(deal: &Deal, party: PartyId, seed: &Digest, lock: LockId) -> bool
 {
     deal.leaders.as_slice()[lock as usize] != party
         || hashed_value(&derive_secret(seed)) == deal.hashlocks.as_slice()[lock as usize]
-}
-
-/// Whether the wallet has what the deal states of its party for the lock.
-pub(crate) fn fits_lock(
-    deal: &Deal,
-    party: PartyId,
-    seed: &Digest,
-    lock: LockId,
-    public: &Option<Digest>,
-) -> bool
-    requires sized { IsWellSized deal.now }
-    requires party { party < deal.now.graph.n }
-    requires lock { lock < length deal.now.leaders }
-    requires public { public.now ≡ party_public deal.now.mode seed.now party lock }
-    ensures { result ≡ fits_lock deal.now party seed.now lock }
-{
-    has_key(deal, party, seed, lock, public) && opens_own(deal, party, seed, lock)
 }
 
 /// Whether a public key, if there is one, is the one that the deal with hashkeys states.

@@ -5,7 +5,7 @@ ghost use Rattle.std.specs.Prelude.{◌≡◌, ◌<◌, ℕ, List, None, length,
 ghost use Rattle.swap_digraph.specs.Deal.{path_limit};
 ghost use Rattle.party_wallet.specs.Keys.{bare_key, own_key, onto_key, unspent};
 
-use crate::hashkeys::bare;
+use crate::bare::bare;
 use hash_signature::{OneTimeKey, derive_secret};
 use hashkey_path::{Hashkey, extend_held, first_held};
 use std::alloc::Global;
@@ -26,58 +26,6 @@ fn bare_held(
     Ok((one, other))
 }
 
-fn own_signed(
-    alloc: Global,
-    deal: &Deal,
-    party: PartyId,
-    seed: &Digest,
-    lock: LockId,
-    slot: &mut Option<OneTimeKey>,
-) -> Result<(Shared<Hashkey>, Shared<Hashkey>), NoMemory>
-    requires party { party < deal.now.graph.n }
-    requires unspent { slot.old ≡ unspent Mode.Hashkeys seed.now party lock }
-    ensures value { IfOk result (λ held. held.0 ≡ own_key Mode.Hashkeys deal.now party seed.now lock) }
-    ensures equal { IfOk result (λ held. held.1 ≡ held.0) }
-    ensures spent { OnOk result (slot.new ≡ None) }
-    ensures back { OnErr result (slot.new ≡ slot.old) }
-{
-    let key = slot.take().unwrap();
-    match first_held(alloc, deal, lock, &derive_secret(seed), party, key) {
-        Ok(held) => Ok(held),
-        Err(back) => {
-            *slot = Some(back.key);
-            Err(NoMemory)
-        }
-    }
-}
-
-fn onto_signed(
-    alloc: Global,
-    deal: &Deal,
-    party: PartyId,
-    inner: &Hashkey,
-    slot: &mut Option<OneTimeKey>,
-) -> Result<(Shared<Hashkey>, Shared<Hashkey>), NoMemory>
-    requires party { party < deal.now.graph.n }
-    requires few { length inner.now.path < path_limit deal.now }
-    requires paired { length inner.now.sigs ≡ length inner.now.path }
-    requires unspent { (seed : List ℕ) × (slot.old ≡ unspent Mode.Hashkeys seed party inner.now.lock) }
-    ensures value { IfOk result (λ held. (seed : List ℕ) → slot.old ≡ unspent Mode.Hashkeys seed party inner.now.lock
-        → held.0 ≡ onto_key Mode.Hashkeys deal.now party seed inner.now) }
-    ensures equal { IfOk result (λ held. held.1 ≡ held.0) }
-    ensures spent { OnOk result (slot.new ≡ None) }
-    ensures back { OnErr result (slot.new ≡ slot.old) }
-{
-    let key = slot.take().unwrap();
-    match extend_held(alloc, deal, inner, party, key) {
-        Ok(held) => Ok(held),
-        Err(back) => {
-            *slot = Some(back.key);
-            Err(NoMemory)
-        }
-    }
-}
-
 /// The party's own hashkey for a lock that it leads. Want of memory leaves the key where it is,
 /// unspent.
 pub(crate) fn own_held(
@@ -95,9 +43,19 @@ pub(crate) fn own_held(
     ensures spent { OnOk result (slot.new ≡ None) }
     ensures back { OnErr result (slot.new ≡ slot.old) }
 {
+    let secret = derive_secret(seed);
     match deal.mode {
-        Mode::Timelocks => bare_held(alloc, lock, &derive_secret(seed)),
-        Mode::Hashkeys => own_signed(alloc, deal, party, seed, lock, slot),
+        Mode::Timelocks => bare_held(alloc, lock, &secret),
+        Mode::Hashkeys => {
+            let key = slot.take().unwrap();
+            match first_held(alloc, deal, lock, &secret, party, key) {
+                Ok(held) => Ok(held),
+                Err(back) => {
+                    *slot = Some(back.key);
+                    Err(NoMemory)
+                }
+            }
+        }
     }
 }
 
@@ -122,6 +80,15 @@ pub(crate) fn onto_held(
 {
     match deal.mode {
         Mode::Timelocks => bare_held(alloc, inner.lock, &inner.secret),
-        Mode::Hashkeys => onto_signed(alloc, deal, party, inner, slot),
+        Mode::Hashkeys => {
+            let key = slot.take().unwrap();
+            match extend_held(alloc, deal, inner, party, key) {
+                Ok(held) => Ok(held),
+                Err(back) => {
+                    *slot = Some(back.key);
+                    Err(NoMemory)
+                }
+            }
+        }
     }
 }

@@ -6,8 +6,8 @@
 #![tactic(auto)]
 
 mod anew;
+mod bare;
 mod fitting;
-mod hashkeys;
 mod held;
 mod signed;
 mod wallet;

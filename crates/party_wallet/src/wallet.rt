@@ -8,7 +8,7 @@ ghost use Rattle.party_wallet.specs.Value.{signed_hashkey};
 ghost use Rattle.party_wallet.specs.Fits.{fits_deal, has_ready, find_public_key, find_wrong_lock, wrong_lock};
 ghost use Rattle.party_wallet.specs.Keys.{empty_wallet, new_wallet, party_public, unspent, own_key, onto_key, with_recorded, with_signed};
 
-use crate::fitting::{fits_lock, fits_stated};
+use crate::fitting::fits_stated;
 use crate::held::{onto_held, own_held};
 use crate::signed::Signed;
 use crate::wallet_key::unspent;
@@ -180,14 +180,7 @@ impl Wallet {
         requires new { self.now ≡ new_wallet self.now.seed self.now.party deal.now }
         ensures { result ≡ wrong_lock deal.now self.now.party self.now.seed }
     {
-        let count = deal.leaders.len() as u8;
-        'locks: for lock in 0..count {
-            let public = &self.publics[lock as usize];
-            if !fits_lock(deal, self.party, &self.seed, lock, public) {
-                return Some(lock);
-            }
-        }
-        None
+        self.mismatched_lock(deal, self.party)
     }
 
     /// Whether it has an unspent key of the party for the lock.

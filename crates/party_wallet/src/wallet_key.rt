@@ -3,7 +3,7 @@
 ghost use Rattle.std.specs.Prelude.{◌≡◌, IfOk};
 ghost use Rattle.party_wallet.specs.Keys.{party_public, unspent};
 
-use hash_signature::{OneTimeKey, keygen, unwalked_key};
+use hash_signature::{OneTimeKey, keygen};
 use std::alloc::Global;
 use swap_base::{Digest, LockId, NoMemory, PartyId};
 use swap_digraph::Mode;
@@ -25,21 +25,5 @@ pub(crate) fn unspent(
             let (key, public) = keygen(alloc, seed, party, lock)?;
             Ok((Some(key), Some(public)))
         }
-    }
-}
-
-/// The key that the seed gives for a lock, without its public key. It walks its chains only as far
-/// as what it signs opens them.
-pub(crate) fn unspent_anew(
-    mode: Mode,
-    seed: &Digest,
-    party: PartyId,
-    lock: LockId,
-) -> Option<OneTimeKey>
-    ensures { result ≡ unspent mode seed.now party lock }
-{
-    match mode {
-        Mode::Timelocks => None,
-        Mode::Hashkeys => Some(unwalked_key(seed, party, lock)),
     }
 }
