@@ -9,6 +9,8 @@ use Rattle.ledger_core.specs.Book.{Histories}
 use Rattle.swap_digraph.specs.Deal.{lock_hashlock}
 use Rattle.swap_rules.specs.Party.{first_key, is_ready, leads_one}
 use Rattle.swap_rules.specs.Conduct.{has_origin}
+use Rattle.sent_keys.specs.declared.judged.Judged.{Judged}
+use Rattle.sent_keys.specs.Judged.{judged_book}
 use Rattle.conduct_check.specs.declared.standing.Standing.{Standing}
 
 -- whether the accepted unlock is with the hashkey
@@ -21,23 +23,23 @@ abbrev pub has_key_origin : Deal → Histories → ℕ → Option Hashkey → Bo
 has_key_origin d b v None = false
 has_key_origin d b v (Some key) = has_origin d.mode d b v key
 
--- whether v's first hashkey for lock i is
-abbrev pub first_origin : Deal → Histories → ℕ → ℕ → Bool
-first_origin d b v i = has_key_origin d b v (first_key b v i)
+-- whether the party's first hashkey for lock i is
+abbrev pub first_origin : Judged → ℕ → Bool
+first_origin j i = has_key_origin j.deal.now (judged_book j) j.party (first_key (judged_book j) j.party i)
 
 -- whether the hashkey is valid on the first of the arcs
 abbrev pub is_valid_on_first_arc : Deal → List ℕ → Option Hashkey → Bool
 is_valid_on_first_arc d (a ∷ rest) (Some key) = is_valid d a (lock_hashlock d key.lock) key
 is_valid_on_first_arc d _ _ = false
 
--- whether v's first hashkey for lock i is valid on the arcs that enter v; the answer is the same
--- for each
-abbrev pub first_valid : Deal → Histories → ℕ → ℕ → Bool
-first_valid d b v i = is_valid_on_first_arc d (entering d.graph v) (first_key b v i)
+-- whether the party's first hashkey for lock i is valid on the arcs that enter the party; the answer
+-- is the same for each
+abbrev pub first_valid : Judged → ℕ → Bool
+first_valid j i = is_valid_on_first_arc j.deal.now (entering j.deal.now.graph j.party) (first_key (judged_book j) j.party i)
 
--- What is read of v in the book.
-pub record IsStanding (d : Deal) (b : Histories) (v : ℕ) (s : Standing) : Type 0 where
-  pub leads : s.leads ≡ leads_one d v
-  pub ready : s.ready ≡ is_ready d b v
-  pub origins : (i : ℕ) → i < length d.leaders → slice_index_or s.origins i false ≡ first_origin d b v i
-  pub valid : (i : ℕ) → i < length d.leaders → slice_index_or s.valid i false ≡ first_valid d b v i
+-- What is read of the party in the book.
+pub record IsStanding (j : Judged) (s : Standing) : Type 0 where
+  pub leads : s.leads ≡ leads_one j.deal.now j.party
+  pub ready : s.ready ≡ is_ready j.deal.now (judged_book j) j.party
+  pub origins : (i : ℕ) → i < length j.deal.now.leaders → slice_index_or s.origins i false ≡ first_origin j i
+  pub valid : (i : ℕ) → i < length j.deal.now.leaders → slice_index_or s.valid i false ≡ first_valid j i

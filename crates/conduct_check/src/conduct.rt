@@ -1,12 +1,11 @@
 //! Whether a party's call keeps the rules of conduct.
 
 ghost use Rattle.std.specs.Prelude.{◌≡◌, ◌==◌, ◌<◌, ℕ, Some, true, length, count_by, option_copied};
-ghost use Rattle.swap_digraph.specs.Deal.{IsWellSized};
 ghost use Rattle.ledger_core.specs.Book.{history};
 ghost use Rattle.swap_rules.specs.Party.{pick_call};
 ghost use Rattle.swap_rules.specs.Conduct.{is_publish, keeps};
-ghost use Rattle.history_index.specs.Indexes.{all_entries, AreIndexes};
-ghost use Rattle.sent_keys.specs.Sent.{shown, party_unlocks};
+ghost use Rattle.history_index.specs.Indexes.{all_entries};
+ghost use Rattle.sent_keys.specs.Judged.{judged_book, IsJudged};
 ghost use Rattle.conduct_check.specs.Standing.{IsStanding};
 ghost use Rattle.conduct_check.specs.CallConduct.{is_first, is_good_key, is_arc_key_valid, keeps_call, keeps_made, HasDealLock};
 
@@ -17,9 +16,8 @@ use escrow_core::{Terms, stated_terms};
 use hashkey_path::Hashkey;
 use history_index::{Index, Made};
 use ledger_core::Call;
-use sent_keys::{first_key, is_first_key, pick_call};
+use sent_keys::{Judged, first_key, is_first_key, pick_call};
 use swap_base::{ArcId, PartyId};
-use swap_digraph::Deal;
 
 fn is_publish(call: Option<&Call>) -> bool
     ensures { result ≡ is_publish (option_copied call.entry) }
@@ -50,44 +48,30 @@ fn publishes_once(known: &[Index], party: PartyId, arc: ArcId) -> bool
 /// Whether a publish has the correct terms and is the party's only one on the arc, and the party
 /// leads or is ready.
 #[tactic(auto, unfolding(swap_rules::specs::Conduct::keeps))]
-fn keeps_publish(
-    deal: &Deal,
-    known: &[Index],
-    party: PartyId,
-    standing: &Standing,
-    arc: ArcId,
-    terms: &Terms,
-) -> bool
-    requires sized { IsWellSized deal.now }
-    requires standing { IsStanding deal.now (all_entries known.now) party standing.now }
-    requires arc { arc < length deal.now.graph.arcs }
-    ensures { (past : _) (at : ℕ) → result ≡ keeps deal.now (all_entries known.now) party arc past at (Some (Call.Publish terms.now)) }
+fn keeps_publish(judged: &Judged<'_>, standing: &Standing, arc: ArcId, terms: &Terms) -> bool
+    requires judged { IsJudged judged.now }
+    requires standing { IsStanding judged.now standing.now }
+    requires arc { arc < length judged.now.deal.now.graph.arcs }
+    ensures { (past : _) (at : ℕ) → result ≡ keeps judged.now.deal.now (judged_book judged.now) judged.now.party arc past at (Some (Call.Publish terms.now)) }
 {
-    terms.same(&stated_terms(deal, arc))
-        && publishes_once(known, party, arc)
+    terms.same(&stated_terms(judged.deal, arc))
+        && publishes_once(judged.known, judged.party, arc)
         && (standing.leads || standing.ready)
 }
 
 /// Whether the hashkey is valid on the arc, where it is the party's first one for its lock. On an
 /// arc that doesn't enter the party it verifies the signatures again.
-fn is_valid_arc_key(
-    deal: &Deal,
-    known: &[Index],
-    party: PartyId,
-    standing: &Standing,
-    arc: ArcId,
-    key: &Hashkey,
-) -> bool
-    requires sized { IsWellSized deal.now }
-    requires standing { IsStanding deal.now (all_entries known.now) party standing.now }
-    requires arc { arc < length deal.now.graph.arcs }
-    requires lock { key.now.lock < length deal.now.leaders }
-    ensures { is_first (all_entries known.now) party key.now ≡ true → result ≡ is_arc_key_valid deal.now arc key.now }
+fn is_valid_arc_key(judged: &Judged<'_>, standing: &Standing, arc: ArcId, key: &Hashkey) -> bool
+    requires judged { IsJudged judged.now }
+    requires standing { IsStanding judged.now standing.now }
+    requires arc { arc < length judged.now.deal.now.graph.arcs }
+    requires lock { key.now.lock < length judged.now.deal.now.leaders }
+    ensures { is_first (judged_book judged.now) judged.now.party key.now ≡ true → result ≡ is_arc_key_valid judged.now.deal.now arc key.now }
 {
-    if deal.graph.arcs()[arc as usize].to == party {
+    if judged.deal.graph.arcs()[arc as usize].to == judged.party {
         standing.valid[key.lock as usize]
     } else {
-        is_valid(deal, arc, key, 0)
+        is_valid(judged.deal, arc, key, 0)
     }
 }
 
@@ -95,78 +79,59 @@ fn is_valid_arc_key(
 ///
 /// It asks first whether the hashkey is well come by. Such a hashkey begins at the party, so no
 /// signature is verified for an arc that doesn't enter the party.
-fn keeps_first(
-    deal: &Deal,
-    known: &[Index],
-    party: PartyId,
-    standing: &Standing,
-    arc: ArcId,
-    key: &Hashkey,
-) -> bool
-    requires sized { IsWellSized deal.now }
-    requires standing { IsStanding deal.now (all_entries known.now) party standing.now }
-    requires arc { arc < length deal.now.graph.arcs }
-    requires lock { key.now.lock < length deal.now.leaders }
-    ensures { is_first (all_entries known.now) party key.now ≡ true → result ≡ is_good_key deal.now (all_entries known.now) party arc key.now }
+fn keeps_first(judged: &Judged<'_>, standing: &Standing, arc: ArcId, key: &Hashkey) -> bool
+    requires judged { IsJudged judged.now }
+    requires standing { IsStanding judged.now standing.now }
+    requires arc { arc < length judged.now.deal.now.graph.arcs }
+    requires lock { key.now.lock < length judged.now.deal.now.leaders }
+    ensures { is_first (judged_book judged.now) judged.now.party key.now ≡ true
+        → result ≡ is_good_key judged.now.deal.now (judged_book judged.now) judged.now.party arc key.now }
 {
-    standing.origins[key.lock as usize] && is_valid_arc_key(deal, known, party, standing, arc, key)
+    standing.origins[key.lock as usize] && is_valid_arc_key(judged, standing, arc, key)
 }
 
 /// Whether an unlock stands after its arc's accepted publish, the party is ready, and the hashkey
 /// is its first one for the lock, valid and well come by.
 #[tactic(auto, unfolding(swap_rules::specs::Conduct::keeps))]
 fn keeps_unlock(
-    deal: &Deal,
-    known: &[Index],
-    party: PartyId,
-    keys: &[&Hashkey],
+    judged: &Judged<'_>,
     standing: &Standing,
     arc: ArcId,
     number: u32,
     key: &Hashkey,
 ) -> bool
-    requires sized { IsWellSized deal.now }
-    requires keys { shown keys.now ≡ party_unlocks (all_entries known.now) party }
-    requires standing { IsStanding deal.now (all_entries known.now) party standing.now }
-    requires arc { arc < length deal.now.graph.arcs }
-    requires lock { key.now.lock < length deal.now.leaders }
-    ensures { (at : ℕ) → result ≡ keeps_call deal.now (all_entries known.now) party arc number at (Call.Unlock key.now) }
+    requires judged { IsJudged judged.now }
+    requires standing { IsStanding judged.now standing.now }
+    requires arc { arc < length judged.now.deal.now.graph.arcs }
+    requires lock { key.now.lock < length judged.now.deal.now.leaders }
+    ensures { (at : ℕ) → result ≡ keeps_call judged.now.deal.now (judged_book judged.now) judged.now.party arc number at (Call.Unlock key.now) }
 {
-    was_published(known, arc, number)
+    was_published(judged.known, arc, number)
         && standing.ready
-        && is_first_key(first_key(known, party, keys, key.lock), key)
-        && keeps_first(deal, known, party, standing, arc, key)
+        && is_first_key(
+            first_key(judged.known, judged.party, judged.keys, key.lock),
+            key,
+        )
+        && keeps_first(judged, standing, arc, key)
 }
 
 /// Whether the call on the arc, where it is the party's, keeps the rules of conduct.
 #[tactic(auto, unfolding(swap_rules::specs::Conduct::keeps))]
-pub(crate) fn keeps_entry(
-    deal: &Deal,
-    known: &[Index],
-    party: PartyId,
-    keys: &[&Hashkey],
-    standing: &Standing,
-    arc: ArcId,
-    made: &Made,
-) -> bool
-    requires sized { IsWellSized deal.now }
-    requires known { AreIndexes deal.now known.now }
-    requires keys { shown keys.now ≡ party_unlocks (all_entries known.now) party }
-    requires standing { IsStanding deal.now (all_entries known.now) party standing.now }
-    requires arc { arc < length deal.now.graph.arcs }
-    requires within { HasDealLock deal.now (pick_call party made.now.entry) }
-    ensures { result ≡ keeps_made deal.now (all_entries known.now) party arc made.now }
+pub(crate) fn keeps_entry(judged: &Judged<'_>, standing: &Standing, arc: ArcId, made: &Made) -> bool
+    requires judged { IsJudged judged.now }
+    requires standing { IsStanding judged.now standing.now }
+    requires arc { arc < length judged.now.deal.now.graph.arcs }
+    requires within { HasDealLock judged.now.deal.now (pick_call judged.now.party made.now.entry) }
+    ensures { result ≡ keeps_made judged.now.deal.now (judged_book judged.now) judged.now.party arc made.now }
 {
-    let Some(call) = pick_call(party, &made.entry) else {
+    let Some(call) = pick_call(judged.party, &made.entry) else {
         return true;
     };
     match call {
-        Call::Publish(terms) => keeps_publish(deal, known, party, standing, arc, terms),
-        Call::Unlock(key) => {
-            keeps_unlock(deal, known, party, keys, standing, arc, made.number, key)
-        }
-        Call::Claim => was_triggered(deal, known, arc, made.number),
-        Call::Refund => had_expired(deal, known, arc, made.number, made.entry.height),
+        Call::Publish(terms) => keeps_publish(judged, standing, arc, terms),
+        Call::Unlock(key) => keeps_unlock(judged, standing, arc, made.number, key),
+        Call::Claim => was_triggered(judged, arc, made.number),
+        Call::Refund => had_expired(judged, arc, made.number, made.entry.height),
         Call::Transfer(_, _) => false,
     }
 }

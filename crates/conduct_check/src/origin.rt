@@ -1,20 +1,21 @@
 //! Where a hashkey comes from.
 
-ghost use Rattle.std.specs.Prelude.{◌≡◌, ◌<◌, option_copied};
+ghost use Rattle.std.specs.Prelude.{◌≡◌, option_copied};
 ghost use Rattle.std.specs.List.{list_any};
 ghost use Rattle.ledger_core.specs.Book.{history};
 ghost use Rattle.ledger_core.specs.History.{accepted};
 ghost use Rattle.swap_rules.specs.Conduct.{carries, extends_without_party, has_origin, has_seen, is_alone};
 ghost use Rattle.history_index.specs.Indexes.{all_entries};
+ghost use Rattle.sent_keys.specs.Judged.{judged_book, IsJudged};
 
 use crate::past::made_calls;
 use due_calls::leads;
 use hashkey_path::Hashkey;
 use history_index::{Index, Made};
 use ledger_core::Call;
-use sent_keys::{accepted, extends_without_party};
+use sent_keys::{Judged, accepted, extends_without_party};
 use swap_base::{ArcId, Digest, PartyId};
-use swap_digraph::{Deal, Mode};
+use swap_digraph::Mode;
 
 /// Whether the call is an unlock with that secret.
 fn carries(secret: &Digest, call: Option<&Call>) -> bool
@@ -67,42 +68,42 @@ fn arc_has_inner(known: &[Index], arc: ArcId, party: PartyId, key: &Hashkey) -> 
     has_inner(made_calls(known, arc), party, key)
 }
 
-fn has_seen_secret(deal: &Deal, known: &[Index], party: PartyId, secret: &Digest) -> bool
-    requires { party < deal.now.graph.n }
-    ensures { result ≡ has_seen deal.now (all_entries known.now) party (carries secret.now) }
+fn has_seen_secret(judged: &Judged<'_>, secret: &Digest) -> bool
+    requires { IsJudged judged.now }
+    ensures { result ≡ has_seen judged.now.deal.now (judged_book judged.now) judged.now.party (carries secret.now) }
 {
-    let leaving = deal.graph.leaving(party);
+    let leaving = judged.deal.graph.leaving(judged.party);
     leaving
         .iter()
-        .any(|arc| arc_has_secret(known, *arc, secret))
+        .any(|arc| arc_has_secret(judged.known, *arc, secret))
 }
 
 /// Whether an inner hashkey was accepted on an arc that leaves the party: this hashkey extends the
 /// inner one by the party, and the inner path lacks the party.
-pub(crate) fn has_seen_inner(deal: &Deal, known: &[Index], party: PartyId, key: &Hashkey) -> bool
-    requires { party < deal.now.graph.n }
-    ensures { result ≡ has_seen deal.now (all_entries known.now) party (extends_without_party party key.now) }
+pub(crate) fn has_seen_inner(judged: &Judged<'_>, key: &Hashkey) -> bool
+    requires { IsJudged judged.now }
+    ensures { result ≡ has_seen judged.now.deal.now (judged_book judged.now) judged.now.party (extends_without_party judged.now.party key.now) }
 {
-    let leaving = deal.graph.leaving(party);
+    let leaving = judged.deal.graph.leaving(judged.party);
     leaving
         .iter()
-        .any(|arc| arc_has_inner(known, *arc, party, key))
+        .any(|arc| arc_has_inner(judged.known, *arc, judged.party, key))
 }
 
 /// Whether the hashkey is the party's own where it leads the lock, and else comes from an arc that
 /// leaves it.
-pub(crate) fn has_origin(deal: &Deal, known: &[Index], party: PartyId, key: &Hashkey) -> bool
-    requires { party < deal.now.graph.n }
-    ensures { result ≡ has_origin deal.now.mode deal.now (all_entries known.now) party key.now }
+pub(crate) fn has_origin(judged: &Judged<'_>, key: &Hashkey) -> bool
+    requires { IsJudged judged.now }
+    ensures { result ≡ has_origin judged.now.deal.now.mode judged.now.deal.now (judged_book judged.now) judged.now.party key.now }
 {
-    let own = leads(deal, party, key.lock);
-    match deal.mode {
-        Mode::Timelocks => own || has_seen_secret(deal, known, party, &key.secret),
+    let own = leads(judged.deal, judged.party, key.lock);
+    match judged.deal.mode {
+        Mode::Timelocks => own || has_seen_secret(judged, &key.secret),
         Mode::Hashkeys => {
             if own {
-                is_alone(party, key.path.as_slice())
+                is_alone(judged.party, key.path.as_slice())
             } else {
-                has_seen_inner(deal, known, party, key)
+                has_seen_inner(judged, key)
             }
         }
     }

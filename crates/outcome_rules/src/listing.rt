@@ -18,7 +18,7 @@ use due_calls::arc_height;
 use history_index::Index;
 use late_check::put_lates;
 use ledger_core::Book;
-use sent_keys::unlocks_on_own_arcs;
+use sent_keys::{Judged, unlocks_on_own_arcs};
 use std::alloc::Global;
 use swap_base::{ArcId, Listed, NoMemory, PartyId};
 use swap_digraph::Deal;
@@ -40,9 +40,15 @@ fn put_rule_findings(
     ensures { OnOk result (out.new.items ≡ out.old.items ++ party_findings deal.now (all_entries known.now) party) }
 {
     let keys = unlocks_on_own_arcs(alloc, deal, known, party)?;
-    put_broken(out, deal, known, party, &keys)?;
-    put_lates(out, deal, known, party, &keys)?;
-    put_forgeries(out, deal, known, party, &keys)?;
+    let judged = Judged {
+        deal,
+        known,
+        party,
+        keys: keys.as_slice(),
+    };
+    put_broken(out, &judged)?;
+    put_lates(out, &judged)?;
+    put_forgeries(out, &judged)?;
     Ok(())
 }
 

@@ -1,18 +1,21 @@
 use Rattle.std.proofs.Common.{sym, ap, take, option_copied, ◌∙◌}
 use Rattle.ledger_core.specs.declared.entry.Call.TheVariants.{Publish, Unlock}
 use Rattle.ledger_core.specs.Book.{history}
-use Rattle.history_index.specs.Indexes.{all_entries}
+use Rattle.sent_keys.specs.Judged.{judged_book}
 use Rattle.conduct_check.proofs.Made.{as_made}
 use Rattle.conduct_check.proofs.conduct.keeps_entry.Goals as goal
 
 pub returns-in-Publish : goal.returns-in-Publish
 returns-in-Publish c =
-    as_made c.args.deal.now (all_entries c.args.known.now) c.args.party c.args.arc c.args.made.now _ _ c.keeps_publish.result
+    let j = c.args.judged.now in
+    let b = judged_book j in
+    as_made j.deal.now b j.party c.args.arc c.args.made.now _ _ c.keeps_publish.result
     (ap option_copied (sym c.in-Some.is) ∙ c.pick_call.ensures) (c.in-Publish.is ∙ ap Publish (sym c.deref.ensures))
-    (c.keeps_publish.ensures (take c.args.made.now.number (history (all_entries c.args.known.now) c.args.arc)) c.args.made.now.entry.height)
+    (c.keeps_publish.ensures (take c.args.made.now.number (history b c.args.arc)) c.args.made.now.entry.height)
 
 pub returns-in-Unlock : goal.returns-in-Unlock
 returns-in-Unlock c =
-    as_made c.args.deal.now (all_entries c.args.known.now) c.args.party c.args.arc c.args.made.now _ _ c.keeps_unlock.result
+    let j = c.args.judged.now in
+    as_made j.deal.now (judged_book j) j.party c.args.arc c.args.made.now _ _ c.keeps_unlock.result
     (ap option_copied (sym c.in-Some.is) ∙ c.pick_call.ensures) (c.in-Unlock.is ∙ ap Unlock (sym c.deref-in-Unlock.ensures))
     (c.keeps_unlock.ensures c.args.made.now.entry.height)

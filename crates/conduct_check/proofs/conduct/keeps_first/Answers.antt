@@ -1,6 +1,6 @@
 use Rattle.std.proofs.Common.{◌∙◌, ap, sym, true}
 use Rattle.hashkey_path.specs.Hashkey.{is_valid}
-use Rattle.history_index.specs.Indexes.{all_entries}
+use Rattle.sent_keys.specs.Judged.{judged_book}
 use Rattle.swap_digraph.specs.Deal.{lock_hashlock}
 use Rattle.swap_rules.specs.Party.{first_key}
 use Rattle.swap_rules.specs.Conduct.{has_origin}
@@ -11,18 +11,24 @@ use Rattle.conduct_check.proofs.conduct.keeps_first.Goals as goal
 
 pub returns-then-standing-key : goal.returns-then-standing-key
 returns-then-standing-key c = λ first.
-    in_turn (has_origin c.args.deal.now.mode c.args.deal.now (all_entries c.args.known.now) c.args.party c.args.key.now)
-    (is_valid c.args.deal.now c.args.arc (lock_hashlock c.args.deal.now c.args.key.now.lock) c.args.key.now) true c.is_valid_arc_key.result
+    let j = c.args.judged.now in
+    let d = j.deal.now in
+    let b = judged_book j in
+    in_turn (has_origin d.mode d b j.party c.args.key.now)
+    (is_valid d c.args.arc (lock_hashlock d c.args.key.now.lock) c.args.key.now) true c.is_valid_arc_key.result
     (sym c.if-standing-key.true ∙ c.requires.standing.origins c.args.key.now.lock c.requires.lock
-    ∙ ap (has_key_origin c.args.deal.now (all_entries c.args.known.now) c.args.party)
-    (first_is_key (first_key (all_entries c.args.known.now) c.args.party c.args.key.now.lock) c.args.key.now first))
+    ∙ ap (has_key_origin d b j.party)
+    (first_is_key (first_key b j.party c.args.key.now.lock) c.args.key.now first))
     (c.is_valid_arc_key.ensures first)
 
 pub returns-else-standing-key : goal.returns-else-standing-key
 returns-else-standing-key c = λ first.
-    stops (has_origin c.args.deal.now.mode c.args.deal.now (all_entries c.args.known.now) c.args.party c.args.key.now)
-    (is_valid c.args.deal.now c.args.arc (lock_hashlock c.args.deal.now c.args.key.now.lock) c.args.key.now) _
+    let j = c.args.judged.now in
+    let d = j.deal.now in
+    let b = judged_book j in
+    stops (has_origin d.mode d b j.party c.args.key.now)
+    (is_valid d c.args.arc (lock_hashlock d c.args.key.now.lock) c.args.key.now) _
     (c.requires.standing.origins c.args.key.now.lock c.requires.lock
-    ∙ ap (has_key_origin c.args.deal.now (all_entries c.args.known.now) c.args.party)
-    (first_is_key (first_key (all_entries c.args.known.now) c.args.party c.args.key.now.lock) c.args.key.now first))
+    ∙ ap (has_key_origin d b j.party)
+    (first_is_key (first_key b j.party c.args.key.now.lock) c.args.key.now first))
     c.if-standing-key.false

@@ -4,5 +4,5 @@ use Rattle.conduct_check.proofs.past.opened_number.Goals as goal
 pub unlocked-requires : goal.unlocked-requires
 unlocked-requires c =
     let l = c.in-Some.ensures.lookup in
-    has_lock (λ x. x.terms) c.args.deal.now c.args.known.now c.args.arc c.args.lock c.in-Some.index.now c.requires.sized c.requires.known.terms l.3.0
+    has_lock (λ x. x.terms) c.args.judged.now.deal.now c.args.judged.now.known.now c.args.arc c.args.lock c.in-Some.index.now c.requires.judged.sized c.requires.judged.known.terms l.3.0
     l.1 c.requires.lock

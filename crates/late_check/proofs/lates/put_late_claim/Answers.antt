@@ -1,5 +1,5 @@
 use Rattle.std.proofs.Common.{sym, ◌∙◌}
-use Rattle.history_index.specs.Indexes.{all_entries}
+use Rattle.sent_keys.specs.Judged.{judged_book}
 use Rattle.swap_rules.specs.declared.finding.Rule.TheVariants.{Claim}
 use Rattle.late_check.proofs.Asked.{no_claim, claim_asked}
 use Rattle.late_check.proofs.Lateness.{none_late}
@@ -7,12 +7,10 @@ use Rattle.late_check.proofs.lates.put_late_claim.Goals as goal
 
 pub returns-then-not-enters : goal.returns-then-not-enters
 returns-then-not-enters c =
-    let d = c.args.deal.now in
-    let b = all_entries c.args.known.now in
-    none_late d b c.args.party Claim c.args.arc c.args.out.now.items (no_claim d b c.args.party c.args.arc (sym c.enters.ensures ∙ c.if-not-enters.true))
+    let j = c.args.judged.now in
+    none_late j.deal.now (judged_book j) j.party Claim c.args.arc c.args.out.now.items (no_claim j.deal.now (judged_book j) j.party c.args.arc (sym c.enters.ensures ∙ c.if-not-enters.true))
 
 pub put_late_arc-requires-clause-asked : goal.put_late_arc-requires-clause-asked
 put_late_arc-requires-clause-asked c =
-    let d = c.args.deal.now in
-    let b = all_entries c.args.known.now in
-    claim_asked d b c.args.party c.args.arc c.claim_start-from.result c.claim_start-from.ensures.exact (sym c.enters.ensures ∙ c.if-not-enters.false)
+    let j = c.args.judged.now in
+    claim_asked j.deal.now (judged_book j) j.party c.args.arc c.claim_start-from.result c.claim_start-from.ensures.exact (sym c.enters.ensures ∙ c.if-not-enters.false)

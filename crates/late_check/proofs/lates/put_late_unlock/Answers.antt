@@ -1,5 +1,5 @@
 use Rattle.std.proofs.Common.{sym, ◌∙◌}
-use Rattle.history_index.specs.Indexes.{all_entries}
+use Rattle.sent_keys.specs.Judged.{judged_book}
 use Rattle.swap_rules.specs.declared.finding.Rule.TheVariants.{Unlock}
 use Rattle.late_check.proofs.Asked.{no_unlock, unlock_asked}
 use Rattle.late_check.proofs.Lateness.{none_late}
@@ -7,14 +7,12 @@ use Rattle.late_check.proofs.lates.put_late_unlock.Goals as goal
 
 pub returns-then-not-enters : goal.returns-then-not-enters
 returns-then-not-enters c =
-    let d = c.args.deal.now in
-    let b = all_entries c.args.known.now in
-    none_late d b c.args.party (Unlock c.args.lock) c.args.arc c.args.out.now.items
-    (no_unlock d b c.args.party c.args.arc c.args.lock (sym c.enters.ensures ∙ c.if-not-enters.true))
+    let j = c.args.judged.now in
+    none_late j.deal.now (judged_book j) j.party (Unlock c.args.lock) c.args.arc c.args.out.now.items
+    (no_unlock j.deal.now (judged_book j) j.party c.args.arc c.args.lock (sym c.enters.ensures ∙ c.if-not-enters.true))
 
 pub put_late_arc-requires-clause-asked : goal.put_late_arc-requires-clause-asked
 put_late_arc-requires-clause-asked c =
-    let d = c.args.deal.now in
-    let b = all_entries c.args.known.now in
-    unlock_asked d b c.args.party c.args.arc c.args.lock c.args.first c.args.from c.requires.first c.requires.from (sym c.enters.ensures
+    let j = c.args.judged.now in
+    unlock_asked j.deal.now (judged_book j) j.party c.args.arc c.args.lock c.args.first c.args.from c.requires.first c.requires.from (sym c.enters.ensures
     ∙ c.if-not-enters.false)
