@@ -1,16 +1,17 @@
 -- The lines of an input that comes piece by piece.
 use Rattle.std.proofs.Common.{◌≡◌, ◌==◌, ◌<◌, ◌≤◌, ◌+◌, ◌-◌, ℕ, suc, Bool, true, false, not, cond, eqb, IsTrue, ◌⊎◌, inl, inr, List, [], ◌∷◌, ◌++◌}
 use Rattle.std.proofs.Common.{length, Option}
-use Rattle.std.proofs.Common.{Result, Err, drop, ◌↔◌, refl, sym, ap, ap₂, ◌∙◌, subst, arith, append_assoc, append-nil, length-append}
+use Rattle.std.proofs.Common.{Result, Ok, Err, drop, ◌↔◌, refl, sym, ap, ap₂, ◌∙◌, subst, arith, append_assoc, append-nil, length-append}
 use Rattle.std.proofs.lemmas.Bool.{and_parts}
 use Rattle.std.proofs.lemmas.List.{length-drop}
 use Rattle.swap_io.specs.Causes.{Rose}
-use Rattle.swap_io.specs.Lines.{IsNext, IsReadingFinished, Reading, TookSome, line_end_bytes, feeds, lacks_feed}
+use Rattle.std.specs.Io.KnownBytes.{IsAtEnd}
+use Rattle.swap_io.specs.Lines.{IsNext, Reading, TookSome, feeds, lacks_feed}
 use Rattle.swap_io.specs.declared.fault.LineFault.{LineFault}
 use Rattle.swap_io.specs.declared.fault.LineFault.TheVariants as line
 use Rattle.swap_io.specs.declared.line_end.LineEnd.{LineEnd}
 use Rattle.swap_io.specs.declared.line_end.LineEnd.TheVariants.{Ended, Rest, End}
-use Rattle.swap_io.proofs.Feeds.{took_none, took_on}
+use Rattle.swap_io.proofs.Feeds.{calm_after, not_past, took_none, took_on}
 use Rattle.command_input.specs.declared.fault.InputFault.{InputFault}
 use Rattle.command_input.specs.declared.fault.InputFault.TheVariants.{Refused, ReadFault, TooLong, NoMemory}
 use Rattle.command_input.specs.Faults.{of_line, retold}
@@ -18,8 +19,8 @@ use Rattle.command_input.specs.Lines.{collect_lines, with_first, filled_lines, i
 use Rattle.command_input.proofs.Filled.{one_more}
 use Rattle.swap_io.specs.declared.fault.DrainFault.{DrainFault}
 use Rattle.swap_io.specs.declared.fault.DrainFault.TheVariants as drained
-use Rattle.command_input.specs.Input.{InputProgress, Breaks, CanBeLeft, Desk, Faulted, Fits, GivesNoLine, HasFailed, HasNoNewFault, IsFed, IsLast, IsLine, TookPart, IsRest, IsTooLong}
-use Rattle.command_input.specs.Input.{ReadsLine, ReadsNone, Stands, TookBytes, ahead, desk, limit, past_empty, to_go}
+use Rattle.command_input.specs.Input.{InputProgress, Breaks, CanBeLeft, Desk, Faulted, Fits, GivesNoLine, HasFailed, HasNoNewFault, IsLast, IsLine, TookPart, IsTooLong}
+use Rattle.command_input.specs.Input.{Stands, CountsLine, ahead, desk, is_over, limit, counted_lines, past_empty, to_go}
 
 not_feed : (t : Bool) → not t ≡ true → t ≡ false
 not_feed true e = absurd (cc e)
@@ -119,94 +120,98 @@ drain_breaks s t drained.ReadFault result is took long most lim rose calm = (
 drain_breaks s t drained.TooLong result is took long most lim rose calm =
     (calm (λ e. absurd (cc (sym is ∙ e))), too_long s t took (long.0 is) most lim)
 
-pub counts_ended : (a b : Option (List ℕ)) (s t : Reading) (line : List ℕ) (n : ℕ) → IsNext a b s t line Ended → n + length s.kept ≤ s.taken
-    → (n + 1) + length t.kept ≤ t.taken
-counts_ended a b s t line n p le = omega (arith, le, p.took.counted, length-append s.kept p.bytes, length-append line (10 ∷ t.kept), ap length p.parts)
-
-pub counts_rest : (a b : Option (List ℕ)) (s t : Reading) (line : List ℕ) (n : ℕ) → IsNext a b s t line Rest → n + length s.kept ≤ s.taken
-    → (n + 1) + length t.kept ≤ t.taken
-counts_rest a b s t line n p le = omega (arith, le, p.ends.0, p.took.counted, length-append s.kept p.bytes, length-append line t.kept, ap length p.parts)
+-- no more lines are counted than bytes were taken
+pub counts : (end : LineEnd) (a b : Option (List ℕ)) (s t : Reading) (line : List ℕ) (n : ℕ) → IsNext a b s t line end → n + length s.kept ≤ s.taken
+    → counted_lines end n + length t.kept ≤ t.taken
+counts Ended a b s t line n p le =
+    omega (arith, le, p.took.counted, length-append s.kept p.bytes, length-append line (10 ∷ t.kept), ap length p.parts)
+counts Rest a b s t line n p le =
+    omega (arith, le, p.ends.0, p.took.counted, length-append s.kept p.bytes, length-append line t.kept, ap length p.parts)
+counts End a b s t line n p le = omega (arith, le, p.took.counted, length-append s.kept p.bytes, length-append line t.kept, ap length p.parts)
 
 -- The steps of an input.
 
--- a line that a line feed ends
-pub reads_ended : (s t : Desk) (line : List ℕ) → IsNext s.left t.left s.at.reading t.at.reading line Ended → HasNoNewFault s t → Fits t.left t.at → t.at.text ≡ line
-    → t.at.number ≡ s.at.number + 1 → ReadsLine s t
-reads_ended s t line p calm fits text number = record {
-  bytes = p.bytes;
-  stands = record { took = p.took; calm = calm; fits = fits };
-  first = λ rest can. ended_ahead s.at.reading.kept p.bytes line t.at.reading.kept rest p.parts p.one
-      ∙ ap (λ (l : List ℕ). l ∷ collect_lines (t.at.reading.kept ++ rest)) (sym text);
-  counted = number;
-}
-
--- bytes at the end that none ends
-pub reads_rest : (s t : Desk) (line : List ℕ) → IsNext s.left t.left s.at.reading t.at.reading line Rest → HasNoNewFault s t → t.at.reading.taken ≤ limit
-    → t.at.text ≡ line → t.at.number ≡ s.at.number + 1 → t.at.over ≡ true → ReadsLine s t
-reads_rest s t line p calm within text number over = record {
-  bytes = p.bytes;
-  stands = record { took = p.took; calm = calm; fits = record { within = within; ended = λ o. p.ends.1.none_left } };
-  first = λ rest can.
-      let kept : t.at.reading.kept ≡ [] = p.ends.1.kept in
-      let none : rest ≡ [] = can over in
-      let parts : s.at.reading.kept ++ p.bytes ≡ line ++ ([] ++ []) = p.parts ∙ ap (λ (xs : List ℕ). line ++ ([] ++ xs)) kept in
-      ap (λ (xs : List ℕ). collect_lines (s.at.reading.kept ++ (p.bytes ++ xs))) none ∙ rest_ahead s.at.reading.kept p.bytes line parts p.ends.0 p.one
-      ∙ ap₂ (λ (xs ys : List ℕ). line ∷ collect_lines (xs ++ ys)) (sym kept) (sym none)
-      ∙ ap (λ (l : List ℕ). l ∷ collect_lines (t.at.reading.kept ++ rest)) (sym text);
-  counted = number;
-}
-
-pub reads_none : (s t : Desk) (line : List ℕ) → IsNext s.left t.left s.at.reading t.at.reading line End → HasNoNewFault s t → t.at.reading.taken ≤ limit
-    → t.at.number ≡ s.at.number → t.at.over ≡ true → ReadsNone s t
-unfolding collect_lines
-reads_none s t line p calm within number over = record {
-  bytes = p.bytes;
-  stands = record { took = p.took; calm = calm; fits = record { within = within; ended = λ o. p.ends.1.none_left } };
-  none = ap collect_lines (p.parts ∙ ap₂ (λ (xs ys : List ℕ). xs ++ ([] ++ ys)) p.ends.0 p.ends.1.kept);
-  number = number;
-  kept = p.ends.1.kept;
-  met = over;
-}
-
 -- how much may still come gets less
-pub fewer : (a b : Option (List ℕ)) (s t : InputProgress) (line : List ℕ) (end : LineEnd) → s.over ≡ false → s.reading.limit ≡ limit → t.reading.taken ≤ limit
-    → IsNext a b s.reading t.reading line end → (t.over ≡ true) ⊎ ((t.over ≡ false) × (end ≡ Ended)) → to_go t < to_go s
-fewer a b s t line end going lim within p (inl over) = rw (over, going) (omega arith)
-fewer a b s t line end going lim within p (inr (still, is)) =
-    let parts : s.reading.kept ++ p.bytes ≡ line ++ ((10 ∷ []) ++ t.reading.kept) = p.parts
-    ∙ ap (λ (e : LineEnd). line ++ (line_end_bytes e ++ t.reading.kept)) is in
-    rw (still, going) (omega (arith, within, p.took.counted, length-append s.reading.kept p.bytes, length-append line (10 ∷ t.reading.kept), ap length parts))
+fewer : (end : LineEnd) (s t : Desk) → s.at.over ≡ false → s.at.reading.limit ≡ limit → t.at.reading.taken ≤ limit
+    → IsNext s.left t.left s.at.reading t.at.reading t.at.text end → t.at.over ≡ is_over end → to_go t.at < to_go s.at
+fewer Ended s t going lim within p over =
+    rw (over, going) (omega (arith, within, p.took.counted, length-append s.at.reading.kept p.bytes, length-append t.at.text (10 ∷ t.at.reading.kept), ap length p.parts))
+fewer Rest s t going lim within p over = rw (over, going) (omega arith)
+fewer End s t going lim within p over = rw (over, going) (omega arith)
 
--- The parts of an input between line feeds.
+-- what the next line of the source, found to be x, makes of the input
+pub takes : (end x : LineEnd) (s t : Desk) → x ≡ end → IsNext s.left t.left s.at.reading t.at.reading t.at.text x
+    → (◌≡◌ {A = Result LineEnd LineFault} (Ok x) (Err line.TooLong) ↔ (t.at.reading.limit < t.at.reading.taken))
+    → (¬ ◌≡◌ {A = Result LineEnd LineFault} (Ok x) (Err line.ReadFault) → HasNoNewFault s t) → s.at.over ≡ false → s.at.reading.limit ≡ limit
+    → s.at.number + length s.at.reading.kept ≤ s.at.reading.taken → t.at.number ≡ counted_lines end s.at.number → t.at.over ≡ is_over end → CountsLine end s t
+takes end x s t is next long calm going lim few number over =
+    let p : IsNext s.left t.left s.at.reading t.at.reading t.at.text end = rw is at next in
+    let same : t.at.reading.limit ≡ limit = p.took.limit ∙ lim in
+    let within : t.at.reading.taken ≤ limit = rw same at (not_past x line.TooLong t.at.reading.limit t.at.reading.taken long) in
+    record {
+      next = p;
+      calm = calm_after x line.ReadFault s.faults t.faults calm;
+      within = within;
+      number = number;
+      few = omega (arith, number, within, counts end s.left t.left s.at.reading t.at.reading t.at.text s.at.number p few);
+      over = over;
+      fewer = fewer end s t going lim within p over;
+    }
 
-pub is_fed : (s t : Desk) (line : List ℕ) → IsNext s.left t.left s.at.reading t.at.reading line Ended → HasNoNewFault s t → s.at.reading.limit ≡ limit
-    → t.at.reading.taken ≤ limit → s.at.over ≡ false → t.at.over ≡ false → t.at.text ≡ line → IsFed s t
-is_fed s t line p calm lim within going still text = record {
-  bytes = p.bytes;
-  stands = record { took = p.took; calm = calm; fits = record { within = within; ended = λ over. absurd (cc (sym still ∙ over)) } };
-  parts = p.parts ∙ ap (λ (l : List ℕ). l ++ (10 ∷ t.at.reading.kept)) (sym text);
-  one = subst (λ (l : List ℕ). IsTrue (lacks_feed l)) (sym text) p.one;
-  open_yet = still;
-  fewer = fewer s.left t.left s.at t.at line Ended going lim within p (inr (still, refl));
+-- A line, blank or not: whatever comes after it, the lines ahead were it and those ahead of it.
+pub record ReadsLine (old new : Desk) : Type 0 where
+  pub bytes : List ℕ
+  pub stands : Stands old new bytes
+  pub first : (rest : List ℕ) → CanBeLeft new.at rest
+      → collect_lines (old.at.reading.kept ++ (bytes ++ rest)) ≡ new.at.text ∷ collect_lines (new.at.reading.kept ++ rest)
+  pub counted : new.at.number ≡ old.at.number + 1
+
+-- No line came, and the end was met.
+pub record ReadsNone (old new : Desk) : Type 0 where
+  pub bytes : List ℕ
+  pub stands : Stands old new bytes
+  pub none : collect_lines (old.at.reading.kept ++ bytes) ≡ []
+  pub number : new.at.number ≡ old.at.number
+  pub kept : new.at.reading.kept ≡ []
+  pub met : new.at.over ≡ true
+
+-- what stands after a line
+line_stands : (end : LineEnd) (s t : Desk) (p : CountsLine end s t) → (t.at.over ≡ true → IsAtEnd t.left) → Stands s t p.next.bytes
+line_stands end s t p ended = record { took = p.next.took; calm = p.calm; fits = record { within = p.within; ended = ended } }
+
+-- a line that a line feed ends, or bytes at the end that none ends
+pub reads_line : (end : LineEnd) (s t : Desk) → (end ≡ Ended) ⊎ (end ≡ Rest) → CountsLine end s t → ReadsLine s t
+reads_line Ended s t some p = record {
+  bytes = p.next.bytes;
+  stands = line_stands Ended s t p (λ over. absurd (cc (sym p.over ∙ over)));
+  first = λ rest can. ended_ahead s.at.reading.kept p.next.bytes t.at.text t.at.reading.kept rest p.next.parts p.next.one;
+  counted = p.number;
 }
-
-rest_at : (s t : Desk) (line bytes : List ℕ) → TookBytes s t bytes → s.at.reading.kept ++ bytes ≡ line ++ t.at.reading.kept → IsReadingFinished t.left t.at.reading
-    → IsTrue (lacks_feed line) → HasNoNewFault s t → t.at.reading.taken ≤ limit → t.at.over ≡ true → t.at.text ≡ line → IsRest s t
-rest_at s t line bytes took parts over one calm within met text = record {
-  bytes = bytes;
-  stands = record { took = took; calm = calm; fits = record { within = within; ended = λ o. over.none_left } };
-  parts = parts ∙ ap (λ (xs : List ℕ). line ++ xs) over.kept ∙ append-nil line ∙ sym text;
-  one = subst (λ (l : List ℕ). IsTrue (lacks_feed l)) (sym text) one;
-  met = met;
+reads_line Rest s t some p = record {
+  bytes = p.next.bytes;
+  stands = line_stands Rest s t p (λ over. p.next.ends.1.none_left);
+  first = λ rest can.
+      let kept : t.at.reading.kept ≡ [] = p.next.ends.1.kept in
+      let none : rest ≡ [] = can p.over in
+      let parts : s.at.reading.kept ++ p.next.bytes ≡ t.at.text ++ ([] ++ []) = p.next.parts ∙ ap (λ (xs : List ℕ). t.at.text ++ ([] ++ xs)) kept in
+      ap (λ (xs : List ℕ). collect_lines (s.at.reading.kept ++ (p.next.bytes ++ xs))) none
+      ∙ rest_ahead s.at.reading.kept p.next.bytes t.at.text parts p.next.ends.0 p.next.one
+      ∙ ap₂ (λ (xs ys : List ℕ). t.at.text ∷ collect_lines (xs ++ ys)) (sym kept) (sym none);
+  counted = p.number;
 }
+reads_line End s t (inl is) p = absurd (cc is)
+reads_line End s t (inr is) p = absurd (cc is)
 
-pub rest_is : (s t : Desk) (line : List ℕ) → IsNext s.left t.left s.at.reading t.at.reading line Rest → HasNoNewFault s t → t.at.reading.taken ≤ limit
-    → t.at.over ≡ true → t.at.text ≡ line → IsRest s t
-rest_is s t line p calm within met text = rest_at s t line p.bytes p.took p.parts p.ends.1 p.one calm within met text
-
-pub end_is : (s t : Desk) (line : List ℕ) → IsNext s.left t.left s.at.reading t.at.reading line End → HasNoNewFault s t → t.at.reading.taken ≤ limit
-    → t.at.over ≡ true → t.at.text ≡ line → IsRest s t
-end_is s t line p calm within met text = rest_at s t line p.bytes p.took p.parts p.ends.1 p.one calm within met text
+pub reads_none : (s t : Desk) → CountsLine End s t → ReadsNone s t
+unfolding collect_lines
+reads_none s t p = record {
+  bytes = p.next.bytes;
+  stands = line_stands End s t p (λ over. p.next.ends.1.none_left);
+  none = ap collect_lines (p.next.parts ∙ ap₂ (λ (xs ys : List ℕ). xs ++ ([] ++ ys)) p.next.ends.0 p.next.ends.1.kept);
+  number = p.number;
+  kept = p.next.ends.1.kept;
+  met = p.over;
+}
 
 -- What stands after two calls.
 

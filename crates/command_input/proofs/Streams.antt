@@ -16,7 +16,7 @@ use Rattle.refusals.specs.declared.refusal.Refusal.{Refusal}
 use Rattle.command_input.specs.Faults.{of_drain, of_line, of_offer, retold, unread}
 use Rattle.command_input.specs.Input.{InputProgress, Breaks, CanBeLeft, Desk, Drains, Ends, Faulted, Fits, GivesLine, GivesNoLine}
 use Rattle.command_input.specs.Input.{HasStopped, HasNoNewFault, IsDrained, IsLast, IsLine}
-use Rattle.command_input.specs.Input.{TookPart, ReadsLineIf, ReadsLine, ReadsNone, Stands, Stops, Tells, ahead, desk, fresh}
+use Rattle.command_input.specs.Input.{TookPart, Stands, Stops, Tells, ahead, desk, fresh}
 use Rattle.command_input.proofs.Ahead.{faulted_on, line_faults, stands_none, stands_on}
 
 -- bytes may come before the end
@@ -140,15 +140,7 @@ module _ {A R E : Type 0} (walk : ℕ → A → List (ℕ × List ℕ) → Resul
       → Stops (λ bytes reason. walk 0 x (ahead first.at bytes) ≡ Err reason) first t (of_offer fault)
   led_to_fault next one s t count y fault p q fails = led_to_fault_at next s t count y fault (one count y) p q fails
 
--- What a call of `read_line` and of `next` gives, by its answer.
-
-pub got_line : (more : Bool) (s t : Desk) → more ≡ true → ReadsLineIf more s t → ReadsLine s t
-got_line true s t e p = p
-got_line false s t e p = absurd (cc e)
-
-pub got_none : (more : Bool) (s t : Desk) → more ≡ false → ReadsLineIf more s t → ReadsNone s t
-got_none true s t e p = absurd (cc e)
-got_none false s t e p = p
+-- What a call of `next` gives, by its answer.
 
 pub line_of : (more : Bool) (s t : Desk) → more ≡ true → GivesLine more s t → IsLine s t
 line_of true s t e p = p

@@ -2,7 +2,9 @@
 use Rattle.std.specs.Prelude.{◌≡◌, ◌<◌, ◌≤◌, ◌+◌, ◌-◌, ℕ, cond, Bool, true, false, List, [], ◌∷◌, ◌++◌, length, IsTrue, Option}
 use Rattle.std.specs.Io.KnownBytes.{IsAtEnd}
 use Rattle.swap_io.specs.Causes.{Rose}
-use Rattle.swap_io.specs.Lines.{Reading, TookFromSource, feeds, lacks_feed, past_feeds}
+use Rattle.swap_io.specs.Lines.{IsNext, Reading, TookFromSource, feeds, lacks_feed, past_feeds}
+use Rattle.swap_io.specs.declared.line_end.LineEnd.{LineEnd}
+use Rattle.swap_io.specs.declared.line_end.LineEnd.TheVariants.{Ended, End}
 use Rattle.swap_io.specs.declared.fault.LineFault.{LineFault}
 use Rattle.swap_io.specs.declared.fault.DrainFault.{DrainFault}
 use Rattle.command_input.specs.Faults.{of_drain, of_line}
@@ -80,26 +82,25 @@ pub record Stands (old new : Desk) (bytes : List ℕ) : Type 0 where
 abbrev pub to_go : InputProgress → ℕ
 to_go s = cond s.over 0 ((limit + 2 - s.reading.taken) + length s.reading.kept)
 
--- A line, blank or not: whatever comes after it, the lines ahead were it and those ahead of it.
-pub record ReadsLine (old new : Desk) : Type 0 where
-  pub bytes : List ℕ
-  pub stands : Stands old new bytes
-  pub first : (rest : List ℕ) → CanBeLeft new.at rest
-      → collect_lines (old.at.reading.kept ++ (bytes ++ rest)) ≡ new.at.text ∷ collect_lines (new.at.reading.kept ++ rest)
-  pub counted : new.at.number ≡ old.at.number + 1
+-- the number of the last line, by what ended it: no byte makes no line
+abbrev pub counted_lines : LineEnd → ℕ → ℕ
+counted_lines End n = n
+counted_lines _ n = n + 1
 
--- No line came, and the end was met.
-pub record ReadsNone (old new : Desk) : Type 0 where
-  pub bytes : List ℕ
-  pub stands : Stands old new bytes
-  pub none : collect_lines (old.at.reading.kept ++ bytes) ≡ []
-  pub number : new.at.number ≡ old.at.number
-  pub kept : new.at.reading.kept ≡ []
-  pub met : new.at.over ≡ true
+-- whether the end was met
+abbrev pub is_over : LineEnd → Bool
+is_over Ended = false
+is_over _ = true
 
-abbrev pub ReadsLineIf : Bool → Desk → Desk → Type 0
-ReadsLineIf true old new = ReadsLine old new
-ReadsLineIf false old new = ReadsNone old new
+-- The bytes up to a line feed or the end were taken as the line, and the line was counted.
+pub record CountsLine (end : LineEnd) (old new : Desk) : Type 0 where
+  pub next : IsNext old.left new.left old.at.reading new.at.reading new.at.text end
+  pub calm : HasNoNewFault old new
+  pub within : new.at.reading.taken ≤ limit
+  pub number : new.at.number ≡ counted_lines end old.at.number
+  pub few : new.at.number ≤ limit
+  pub over : new.at.over ≡ is_over end
+  pub fewer : to_go new.at < to_go old.at
 
 -- The next line that isn't blank: whatever comes after it, the lines ahead were it and those ahead
 -- of it.

@@ -1,8 +1,7 @@
 //! An input that is read line by line.
 
-ghost use Rattle.std.specs.Prelude.{◌≡◌, ◌<◌, ◌≤◌, ◌+◌, [], length, true, false, IfOk, IfErr, OnOk};
-ghost use Rattle.command_input.specs.Input.{InputProgress, Breaks, Drains, Fits, GivesNoLine, GivesLine, GivesPart, IsDrained, IsDropped, ReadsLineIf, desk, fresh, limit, past_empty};
-ghost use Rattle.command_input.specs.Input.{to_go};
+ghost use Rattle.std.specs.Prelude.{◌≡◌, ◌≤◌, ◌+◌, [], length, true, false, IfOk, IfErr, OnOk};
+ghost use Rattle.command_input.specs.Input.{InputProgress, Breaks, Drains, Fits, GivesNoLine, GivesLine, GivesPart, IsDrained, IsDropped, CountsLine, desk, fresh, limit, past_empty};
 
 use crate::fault::InputFault;
 use crate::lines::is_blank;
@@ -59,29 +58,28 @@ impl Input {
         self.number
     }
 
-    /// Reads one line, blank or not, and answers whether there was one.
-    fn read_line<S: Source>(&mut self, source: &mut S) -> Result<bool, LineFault>
+    /// Takes the next bytes up to a line feed or the end as the line, counts it unless no byte came,
+    /// and answers what ended it.
+    fn take_line<S: Source>(&mut self, source: &mut S) -> Result<LineEnd, LineFault>
         requires open_yet { self.old.over ≡ false }
-        ensures reads { IfOk result (λ more. ReadsLineIf more (desk (S.left source.old) (S.faults source.old) self.old)
+        ensures takes { IfOk result (λ end. CountsLine end (desk (S.left source.old) (S.faults source.old) self.old)
             (desk (S.left source.new) (S.faults source.new) self.new)) }
-        ensures few { IfOk result (λ _. self.new.number ≤ limit) }
-        ensures shorter { IfOk result (λ _. to_go self.new < to_go self.old) }
         ensures fails { IfErr result (GivesNoLine (desk (S.left source.old) (S.faults source.old) self.old)
             (desk (S.left source.new) (S.faults source.new) self.new)) }
     {
         match self.lines.next(source, &mut self.line)? {
             LineEnd::Ended => {
                 self.number += 1;
-                Ok(true)
+                Ok(LineEnd::Ended)
             }
             LineEnd::Rest => {
                 self.number += 1;
                 self.over = true;
-                Ok(true)
+                Ok(LineEnd::Rest)
             }
             LineEnd::End => {
                 self.over = true;
-                Ok(false)
+                Ok(LineEnd::End)
             }
         }
     }
@@ -95,20 +93,9 @@ impl Input {
         ensures fails { IfErr result (GivesNoLine (desk (S.left source.old) (S.faults source.old) self.old)
             (desk (S.left source.new) (S.faults source.new) self.new)) }
     {
-        match self.lines.next(source, &mut self.line)? {
-            LineEnd::Ended => {
-                self.number += 1;
-                Ok(true)
-            }
-            LineEnd::Rest => {
-                self.number += 1;
-                self.over = true;
-                Ok(false)
-            }
-            LineEnd::End => {
-                self.over = true;
-                Ok(false)
-            }
+        match self.take_line(source)? {
+            LineEnd::Ended => Ok(true),
+            LineEnd::Rest | LineEnd::End => Ok(false),
         }
     }
 
@@ -128,13 +115,15 @@ impl Input {
             (desk (S.left source.new) (S.faults source.new) self.new)) }
     {
         'lines: while !self.is_finished() {
-            if !self.read_line(source)? {
-                return Ok(false);
+            match self.take_line(source)? {
+                LineEnd::End => return Ok(false),
+                LineEnd::Ended | LineEnd::Rest => {
+                    if !is_blank(self.text()) {
+                        return Ok(true);
+                    }
+                    self.pass_empty();
+                }
             }
-            if !is_blank(self.text()) {
-                return Ok(true);
-            }
-            self.pass_empty();
         }
         Ok(false)
     }

@@ -87,12 +87,17 @@ parse_refund s line n = do
   arc ← parse_arc s line (codes "arc") n
   Ok (Refund arc)
 
-unfoldable pub parse_transfer : Sizes → List (List ℕ) → ℕ → ℕ → List ℕ → ℕ → Result Move Reason
-parse_transfer s names line n name m = do
-  to ← party_of_name line names name
+-- a transfer to a party that is known
+abbrev pub make_transfer : Sizes → ℕ → ℕ → ℕ → ℕ → Result Move Reason
+make_transfer s line n to m = do
   arc ← parse_arc s line (codes "arc") n
   units ← ranged_number line (codes "units") 0 1000000000000 m
   Ok (Transfer arc to units)
+
+unfoldable pub parse_transfer : Sizes → List (List ℕ) → ℕ → ℕ → List ℕ → ℕ → Result Move Reason
+parse_transfer s names line n name m = do
+  to ← party_of_name line names name
+  make_transfer s line n to m
 
 unfoldable pub parse_wait : Sizes → ℕ → ℕ → ℕ → Result Move Reason
 parse_wait s line n m = do

@@ -2,7 +2,7 @@
 
 ghost use Rattle.std.specs.Prelude.{◌≡◌, ◌≤◌, length};
 ghost use Rattle.swap_base.specs.Fault.{Gives};
-ghost use Rattle.offer_moves.specs.Moves.{parse_arc, optional_arc, make_publish, parse_craft, parse_replay, checked_hashkey, parse_unlock, parse_claim, parse_refund, parse_transfer};
+ghost use Rattle.offer_moves.specs.Moves.{parse_arc, optional_arc, make_publish, parse_craft, parse_replay, checked_hashkey, parse_unlock, parse_claim, parse_refund, make_transfer};
 ghost use Rattle.offer_moves.specs.Moves.{deal_sizes, parse_wait, parse_move};
 
 use crate::limits::{
@@ -11,10 +11,10 @@ use crate::limits::{
 use crate::names::path_numbers;
 use crate::raw::{RawCraft, RawKey, RawMove, RawTerms};
 use hashkey_path::Hashkey;
-use offer_fields::{TextRef, check_range, parse_digest, party_of_name, ranged_number};
+use offer_fields::{check_range, parse_digest, party_of_name, ranged_number};
 use refusals::OfferFault;
 use std::alloc::Global;
-use swap_base::{ArcId, ByteText};
+use swap_base::{ArcId, ByteText, PartyId};
 use swap_digraph::{Deal, PathList, path_limit};
 use swap_job::Move;
 
@@ -195,20 +195,17 @@ fn parse_refund(alloc: Global, sizes: Sizes, line: u32, number: u64) -> Result<M
     Ok(Move::Refund { arc })
 }
 
-#[tactic(auto, unfolding(crate::specs::Moves::parse_transfer))]
-fn parse_transfer(
+/// A transfer to a party that is known, or the first reason against its arc or its amount.
+fn make_transfer(
     alloc: Global,
     sizes: Sizes,
-    names: &[ByteText],
     line: u32,
     number: u64,
-    name: &TextRef<'_>,
+    to: PartyId,
     amount: u64,
 ) -> Result<Move, OfferFault>
-    requires names { length names.now ≤ 256 }
-    ensures { Gives (λ m. m) result (parse_transfer sizes names.now line number name.now amount) }
+    ensures { Gives (λ m. m) result (make_transfer sizes line number to amount) }
 {
-    let to = party_of_name(alloc, line, names, name.as_slice())?;
     let arc = parse_arc(alloc, sizes, line, "arc", number)?;
     let units = units(alloc, line, "units", amount)?;
     Ok(Move::Transfer { arc, to, units })
@@ -230,6 +227,7 @@ fn parse_wait(
 }
 
 /// The move that a line asks for, or the first reason against a name or a limit of it.
+#[tactic(auto, unfolding(crate::specs::Moves::parse_transfer))]
 pub fn parse_move(
     alloc: Global,
     sizes: Sizes,
@@ -248,7 +246,8 @@ pub fn parse_move(
         RawMove::Claim { arc } => parse_claim(alloc, sizes, line, *arc),
         RawMove::Refund { arc } => parse_refund(alloc, sizes, line, *arc),
         RawMove::Transfer { arc, to, units } => {
-            parse_transfer(alloc, sizes, names, line, *arc, to, *units)
+            let to = party_of_name(alloc, line, names, to.as_slice())?;
+            make_transfer(alloc, sizes, line, *arc, to, *units)
         }
         RawMove::Wait { arc, height } => parse_wait(alloc, sizes, line, *arc, *height),
     }

@@ -1,9 +1,14 @@
 -- Reasons with the names of the parties that they may speak of.
-use Rattle.std.specs.Prelude.{ℕ, List, Result, Ok, Err}
+use Rattle.std.specs.Prelude.{◌≡◌, ℕ, List, Result, Ok, Err}
+use Rattle.swap_base.specs.Fault.{Is}
 use Rattle.swap_base.specs.declared.fault.Fault.{Fault}
 use Rattle.swap_base.specs.declared.fault.Fault.TheVariants.{Refused, NoMemory}
 use Rattle.refusals.specs.declared.reason.Reason.{Reason}
 use Rattle.refusals.specs.declared.refusal.Refusal.{Refusal}
+
+-- where P holds of one reason alone, the fault says that reason, or that memory ran out
+abbrev pub SaysOnly : (Reason → Type 0) → Fault Reason → Type 0
+SaysOnly P fault = (reason : Reason) → ((given : Reason) → P given → given ≡ reason) → Is fault reason
 
 abbrev pub refusal : List (List ℕ) → Reason → Refusal
 refusal names reason = record { reason = reason; names = names }
