@@ -44,35 +44,11 @@ fn sign_extension(
     }
 }
 
-/// Signs a hashkey for the lock, for which none was signed.
+/// A copy of the hashkey of an unlock that is due, which is signed where none was for its lock.
+/// Want of memory leaves everything as it was.
 // Never inlined: what a signature takes on the stack would be taken by each act that finds nothing
 // due.
 #[inline(never)]
-fn sign_new(
-    alloc: Global,
-    wallet: &mut Wallet,
-    deal: &Deal,
-    known: &[Index],
-    due: UnlockDue,
-) -> Result<Shared<Hashkey>, NoMemory>
-    requires ready { IsReadyWallet deal.now wallet.old known.now }
-    requires lock { due.lock < length deal.now.leaders }
-    requires base { IsSeenBase deal.now wallet.old.party (all_entries known.now) due.lock due.base }
-    requires from { IsSome (base_key deal.now wallet.old (all_entries known.now) due) }
-    requires unsigned { signed_hashkey wallet.old.signed due.lock ≡ None }
-    ensures value { IfOk result (λ k. base_key deal.now wallet.old (all_entries known.now) due ≡ Some k) }
-    ensures kept { IfOk result (λ k. wallet.new ≡ with_signed wallet.old due.lock k) }
-    ensures err { OnErr result (wallet.new ≡ wallet.old) }
-{
-    match due.base {
-        Base::Own => wallet.sign_own(alloc, deal, due.lock),
-        Base::Onto(arc) => sign_extension(alloc, wallet, deal, &known[arc as usize], due.lock),
-        Base::Signed => unreachable!(),
-    }
-}
-
-/// A copy of the hashkey of an unlock that is due, which is signed where none was for its lock.
-/// Want of memory leaves everything as it was.
 pub(crate) fn chosen_hashkey(
     alloc: Global,
     wallet: &mut Wallet,
@@ -89,8 +65,11 @@ pub(crate) fn chosen_hashkey(
     ensures err { OnErr result (wallet.new ≡ wallet.old) }
 {
     if wallet.is_signed(due.lock) {
-        wallet.copy_signed(due.lock)
-    } else {
-        sign_new(alloc, wallet, deal, known, due)
+        return wallet.copy_signed(due.lock);
+    }
+    match due.base {
+        Base::Own => wallet.sign_own(alloc, deal, due.lock),
+        Base::Onto(arc) => sign_extension(alloc, wallet, deal, &known[arc as usize], due.lock),
+        Base::Signed => unreachable!(),
     }
 }

@@ -7,7 +7,7 @@ use Rattle.party_machine.specs.Within.{all_entries}
 use Rattle.party_machine.specs.Unlocking.{IsSignable}
 use Rattle.party_machine.proofs.MachineEntries.{one_each, legal_at, released_history}
 use Rattle.party_machine.proofs.Onto.{can_put_onto}
-use Rattle.party_machine.proofs.signing.sign_new.Goals as goal
+use Rattle.party_machine.proofs.signing.chosen_hashkey.Goals as goal
 
 pub sign_extension-requires-clause-known : goal.sign_extension-requires-clause-known
 sign_extension-requires-clause-known c =
