@@ -25,8 +25,8 @@ use Rattle.swap_world.specs.Gone.{MayGive, Answered, MayBeGiven, HasAsked, HasGo
 use Rattle.swap_world.specs.On.{IsCutWithSweeps, event_told}
 use Rattle.swap_world.specs.declared.call_outcome.Told.{Told}
 use Rattle.swap_world.specs.Inside.{strategy_name, asked_questions, ArePartyActors}
-use Rattle.swap_world.specs.declared.actor.Actor.{Actor}
-use Rattle.swap_world.specs.declared.actor.Actor.TheVariants.{Planned}
+use Rattle.swap_world.specs.Players.{Actor}
+use Rattle.swap_world.specs.declared.player.Player.TheVariants.{Planned}
 use Rattle.swap_world.proofs.States.{IsPlanAt, answered, answered_told, plan_notes, state}
 use Rattle.swap_world.proofs.Disks.{HaveSigned, have_signed}
 use Rattle.swap_world.proofs.Worlds.{good_step, kept_step, world}

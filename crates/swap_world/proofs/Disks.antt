@@ -3,7 +3,7 @@ use Rattle.std.proofs.Common.{◌≡◌, ◌≢◌, ◌⊎◌, inl, inr, ℕ, �
 use Rattle.std.proofs.Common.{◌∙◌, subst, arith, [], Result, Ok, Err, OnOk, OnErr}
 use Rattle.std.specs.Result.{is_err}
 use Rattle.std.proofs.lemmas.Bool.{false≢true}
-use Rattle.std.proofs.lemmas.List.{length-set, get_or-map, get_or-set_same, get_or-set_other, get_or_default}
+use Rattle.std.proofs.lemmas.List.{length-set, get_or-map, get_or-set_same, get_or-set_other}
 use Rattle.swap_digraph.specs.declared.deal.Deal.{Deal}
 use Rattle.hashkey_path.specs.declared.hashkey.Hashkey.{Hashkey}
 use Rattle.ledger_core.specs.declared.entry.Call.TheVariants.{Unlock}
@@ -17,7 +17,6 @@ use Rattle.swap_job.specs.declared.job.Role.TheVariants as kinds
 use Rattle.swap_job.specs.Step.{CanStep}
 use Rattle.swap_base.specs.Lists.{IsMoment}
 use Rattle.swap_rules.specs.Party.{pick_call}
-use Rattle.swap_rules.proofs.Prefixes.{same_or_not}
 use Rattle.party_wallet.specs.Value.{signed_hashkey}
 use Rattle.party_machine.specs.Machine.{MachineState, next_due}
 use Rattle.swap_rules.specs.Due.{Action}
@@ -28,7 +27,7 @@ use Rattle.wallet_journal.specs.Journal.{JournalState, listed_hashkey}
 use Rattle.wallet_journal.specs.Layout.{recorded}
 use Rattle.wallet_journal.specs.Memory.{DiskState}
 use Rattle.wallet_journal.specs.Stopped.{IsWrittenUp, ShowsAll}
-use Rattle.swap_run.specs.Run.{Notes, Plan, Question, State, state_notes}
+use Rattle.swap_run.specs.Run.{Notes, Question, State, state_notes}
 use Rattle.swap_run.specs.Called.{apply_step}
 use Rattle.swap_run.specs.Laws.{IsGood, IsReadyCast}
 use Rattle.swap_run.proofs.Good.{unlocks_are_signed}
@@ -36,12 +35,13 @@ use Rattle.swap_run.proofs.Swept.{steps_on_are_good}
 use Rattle.swap_world.specs.Acting.{next_book, histories, next_machine, IsSameOwner}
 use Rattle.swap_world.specs.Cast.{made_cast}
 use Rattle.swap_world.specs.Inside.{actor_notes, inside_run_state, ArePartyActors, WorldHolds, IsPartyActor}
-use Rattle.swap_world.specs.Journals.{AreMachineDisks, AreMachineJournals, IsDiskDuringSigning, IsMachineDisk, IsSomeDisk, IsSomeJournal}
-use Rattle.swap_world.specs.declared.actor.Actor.{Actor}
-use Rattle.swap_world.specs.declared.actor.Actor.TheVariants.{Conforming, Planned, Manual}
+use Rattle.swap_world.specs.Journals.{AreJournaled, HaveDisks, HasMachineDisk, IsDiskDuringSigning, IsJournaled, IsMachineDisk}
+use Rattle.swap_world.specs.Players.{Actor}
+use Rattle.swap_world.specs.declared.player.Player.TheVariants.{Conforming, Planned, Manual}
 use Rattle.swap_world.specs.declared.world.World.TheInside.{Inside}
+use Rattle.swap_world.proofs.Ledgers.{each_but}
 use Rattle.swap_world.proofs.Restarts.{seen_left}
-use Rattle.swap_world.proofs.States.{actor_set, acted, c, s, state, notes_at, IsAt}
+use Rattle.swap_world.proofs.States.{actor_set, acted, c, s, state, IsAt}
 use Rattle.swap_world.proofs.Worlds.{owned}
 use Rattle.swap_job.specs.Crafted.{Seeds}
 
@@ -52,14 +52,18 @@ pub record IsSigned (d : Deal) (v : ℕ) (b : Histories) (signed : List (Option 
   pub calls : (a : ℕ) (past : List Entry) (e : Entry) (key : Hashkey) → IsMoment (history b a) past e → pick_call v e ≡ Some (Unlock key)
       → signed_hashkey signed key.lock ≡ Some key
 
--- each machine has signed what its party's unlock calls carry
+-- the same of a player, where it is a machine
+abbrev pub HasSigned : Deal → Histories → ℕ → Actor → Type 0
+HasSigned d b v (Conforming m j) = IsSigned d v b m.signed
+HasSigned d b v _ = Unit {0}
+
+-- and of each player
 abbrev pub HaveSigned : Deal → Histories → List Actor → Type 0
-HaveSigned d b xs = (v : ℕ) (m : MachineState) → v < length xs → Conforming m ≡ get_or xs v (Conforming m) → IsSigned d v b m.signed
+HaveSigned d b xs = (v : ℕ) (x : Actor) → v < length xs → x ≡ get_or xs v x → HasSigned d b v x
 
 -- each machine but that of party p has signed what its party's unlock calls carry
 abbrev pub OthersSigned : Deal → Histories → List Actor → ℕ → Type 0
-OthersSigned d b xs p =
-    (v : ℕ) (m : MachineState) → v ≢ p → v < length xs → Conforming m ≡ get_or xs v (Conforming m) → IsSigned d v b m.signed
+OthersSigned d b xs p = (v : ℕ) (x : Actor) → v ≢ p → v < length xs → x ≡ get_or xs v x → HasSigned d b v x
 
 -- Disks between what was signed and what is.
 
@@ -175,18 +179,23 @@ module _ (before after shown : List (Option Hashkey)) (h h' : Held) (bytes : Lis
 pub have_signed : (d : Deal) (conforming : List Bool) (seeds : Seeds) (roles : List Role) (t : State) (ys : List Actor)
     → ArePartyActors d conforming seeds roles ys
     → IsGood (made_cast d conforming seeds roles) t → t.notes ≡ map (actor_notes d) ys → HaveSigned d t.book ys
-have_signed d conforming seeds roles t ys actors good notes v m lt here =
-    let is = actors.each v (Conforming m) lt here in
-    let none : Notes = record { known = []; signed = [] } in
-    let lv : v < d.graph.n = subst (λ n. v < n) actors.one_each lt in
-    let same : state_notes t v ≡ record { known = m.known; signed = m.signed } =
-    ap (λ (ns : List Notes). get_or ns v none) notes
-    ∙ (get_or-map (actor_notes d) ys v (Conforming m) none lt ∙ ap (actor_notes d) (sym here)) in
-    record {
-      places = ap (λ (n : Notes). length n.signed) (sym same) ∙ (good.notes v lv is.0).places;
-      calls = λ a past e key mo q. ap (λ (n : Notes). signed_hashkey n.signed key.lock) (sym same)
-          ∙ unlocks_are_signed (made_cast d conforming seeds roles) t v a past e key good lv is.0 mo q;
-    }
+have_signed d conforming seeds roles t ys actors good notes v x lt here = go x here
+  where
+    go : (x : Actor) → x ≡ get_or ys v x → HasSigned d t.book v x
+    go (Conforming m j) here =
+        let is = actors.each v (Conforming m j) lt here in
+        let none : Notes = record { known = []; signed = [] } in
+        let lv : v < d.graph.n = subst (λ n. v < n) actors.one_each lt in
+        let same : state_notes t v ≡ record { known = m.known; signed = m.signed } =
+        ap (λ (ns : List Notes). get_or ns v none) notes
+        ∙ (get_or-map (actor_notes d) ys v (Conforming m j) none lt ∙ ap (actor_notes d) (sym here)) in
+        record {
+          places = ap (λ (n : Notes). length n.signed) (sym same) ∙ (good.notes v lv is.0).places;
+          calls = λ a past e key mo q. ap (λ (n : Notes). signed_hashkey n.signed key.lock) (sym same)
+              ∙ unlocks_are_signed (made_cast d conforming seeds roles) t v a past e key good lv is.0 mo q;
+        }
+    go (Planned n) here = tt
+    go Manual here = tt
 
 -- before an event that no machine notes, or after it
 pub have_either : (d : Deal) (conforming : List Bool) (seeds : Seeds) (roles : List Role) (qs : List Question) (ls : List LedgerState) (xs : List Actor)
@@ -204,64 +213,24 @@ have_either d conforming seeds roles qs ls xs sw e b actors ready can good notes
 
 -- The disks of a world.
 
-pub disks_stay : (d : Deal) (b : Histories) (xs : List Actor) (js : List (Option (JournalState DiskState))) → AreMachineJournals d xs js → HaveSigned d b xs
-    → AreMachineDisks d b xs js
-disks_stay d b xs js k signed = record { one_each = k.one_each; each = λ v m o lt here q. some v m o (signed v m lt here) (k.each v m o lt here q) }
-  where
-    some : (v : ℕ) (m : MachineState) (o : Option (JournalState DiskState)) → IsSigned d v b m.signed → IsSomeJournal d v m.signed o
-        → IsSomeDisk d v b m.signed o
-    some v m None have j = absurd j
-    some v m (Some x) have j = between_disk d v b m.signed m.signed x.disk.held (exact_between m.signed x.signed x.disk.held j.has j.shows) have
+disk_of : (d : Deal) (b : Histories) (v : ℕ) (x : Actor) → IsJournaled d v x → HasSigned d b v x → HasMachineDisk d b v x
+disk_of d b v (Conforming m j) k have = between_disk d v b m.signed m.signed j.disk.held (exact_between m.signed j.signed j.disk.held k.has k.shows) have
+disk_of d b v (Planned n) k have = tt
+disk_of d b v Manual k have = tt
 
--- a plan stands in the place of party p
-pub planned_signed : (d : Deal) (b : Histories) (xs : List Actor) (p : ℕ) (n : Plan) → p < length xs → HaveSigned d b xs
-    → HaveSigned d b (set xs p (Planned n))
-planned_signed d b xs p n lt signed v m l e = at (same_or_not v p)
-  where
-    low : v < length xs
-    low = subst (λ k. v < k) (length-set xs p (Planned n)) l
-
-    at : (v ≡ p) ⊎ (v ≢ p) → IsSigned d v b m.signed
-    at (inl q) =
-        let is : Conforming m ≡ Planned n =
-        e ∙ (ap (λ u. get_or (set xs p (Planned n)) u (Conforming m)) q ∙ get_or-set_same xs p (Planned n) (Conforming m) lt) in
-        absurd (cc is)
-    at (inr apart) = signed v m low (e ∙ get_or-set_other xs p v (Planned n) (Conforming m) apart)
+pub disks_stay : (d : Deal) (b : Histories) (xs : List Actor) → AreJournaled d xs → HaveSigned d b xs → HaveDisks d b xs
+disks_stay d b xs k signed v x lt here = disk_of d b v x (k v x lt here) (signed v x lt here)
 
 -- who isn't in the place of party p
 pub others_signed : (d : Deal) (b : Histories) (xs : List Actor) (p : ℕ) (x : Actor) → HaveSigned d b (set xs p x) → OthersSigned d b xs p
-others_signed d b xs p x signed v m apart lt here =
-    signed v m (subst (λ n. v < n) (sym (length-set xs p x)) lt) (here ∙ sym (get_or-set_other xs p v x (Conforming m) apart))
+others_signed d b xs p x signed v y apart lt here =
+    signed v y (subst (λ n. v < n) (sym (length-set xs p x)) lt) (here ∙ sym (get_or-set_other xs p v x y apart))
 
 -- a machine and its journal stand in the place of party p
-pub disks_set : (d : Deal) (b : Histories) (xs : List Actor) (js : List (Option (JournalState DiskState))) (p : ℕ) (new : MachineState)
-    (j : JournalState DiskState) → AreMachineJournals d xs js → OthersSigned d b xs p → p < length xs → IsMachineDisk d p b new.signed j.disk.held
-    → AreMachineDisks d b (set xs p (Conforming new)) (set js p (Some j))
-disks_set d b xs js p new j k others lt here = record {
-  one_each = length-set js p (Some j) ∙ (k.one_each ∙ sym (length-set xs p (Conforming new)));
-  each = λ v m o l e q. at v m o (subst (λ n. v < n) (length-set xs p (Conforming new)) l) e q (same_or_not v p);
-}
-  where
-    signed_by : Actor → List (Option Hashkey)
-    signed_by (Conforming m) = m.signed
-    signed_by _ = []
-
-    some : (v : ℕ) (m : MachineState) (o : Option (JournalState DiskState)) → IsSigned d v b m.signed → IsSomeJournal d v m.signed o
-        → IsSomeDisk d v b m.signed o
-    some v m None have x = absurd x
-    some v m (Some y) have x = between_disk d v b m.signed m.signed y.disk.held (exact_between m.signed y.signed y.disk.held x.has x.shows) have
-
-    at : (v : ℕ) (m : MachineState) (o : Option (JournalState DiskState)) → v < length xs → Conforming m ≡ get_or (set xs p (Conforming new)) v (Conforming m)
-        → o ≡ get_or (set js p (Some j)) v o → (v ≡ p) ⊎ (v ≢ p) → IsSomeDisk d v b m.signed o
-    at v m o l e q (inl w) =
-        let is : o ≡ Some j = q ∙ (ap (λ u. get_or (set js p (Some j)) u o) w ∙ get_or-set_same js p (Some j) o (subst (λ n. p < n) (sym k.one_each) lt)) in
-        let it : Conforming m ≡ Conforming new =
-        e ∙ (ap (λ u. get_or (set xs p (Conforming new)) u (Conforming m)) w ∙ get_or-set_same xs p (Conforming new) (Conforming m) lt) in
-        subst (λ u. IsSomeDisk d u b m.signed o) (sym w) (subst (IsSomeDisk d p b m.signed) (sym is)
-        (subst (λ (l : List (Option Hashkey)). IsMachineDisk d p b l j.disk.held) (sym (ap signed_by it)) here))
-    at v m o l e q (inr apart) =
-        let x = e ∙ get_or-set_other xs p v (Conforming new) (Conforming m) apart in
-        some v m o (others v m apart l x) (k.each v m o l x (q ∙ get_or-set_other js p v (Some j) o apart))
+pub disks_set : (d : Deal) (b : Histories) (xs : List Actor) (p : ℕ) (new : MachineState) (j : JournalState DiskState) → AreJournaled d xs
+    → OthersSigned d b xs p → p < length xs → IsMachineDisk d p b new.signed j.disk.held → HaveDisks d b (set xs p (Conforming new j))
+disks_set d b xs p new j k others lt here =
+    each_but (HasMachineDisk d b) xs p (Conforming new j) (λ v x apart l e. disk_of d b v x (k v x l e) (others v x apart l e)) lt here
 
 -- what holds whether memory ran out or not
 pub any_result : {A E : Type 0} {P : Type 0} (r : Result A E) → OnOk r P → OnErr r P → P
@@ -275,87 +244,74 @@ err_unless (Err e) stopped is on h = h
 
 -- memory ran out in a conforming party's crash
 pub crashed_disks : (d : Deal) (conforming : List Bool) (seeds : Seeds) (roles : List Role) (qs : List Question) (ls : List LedgerState) (xs : List Actor)
-    (js : List (Option (JournalState DiskState))) (p : ℕ) (m new : MachineState) (j : JournalState DiskState)
-    → IsAt d conforming seeds roles qs ls xs p m → ArePartyActors d conforming seeds roles xs
-    → IsGood (c d conforming seeds roles qs ls xs) (s d conforming seeds roles qs ls xs) → AreMachineJournals d xs js
-    → IsDiskDuringSigning m.signed new.signed j.disk.held → AreMachineDisks d (histories ls) (set xs p (Conforming new)) (set js p (Some j))
-crashed_disks d conforming seeds roles qs ls xs js p m new j place actors good k between =
+    (p : ℕ) (m new : MachineState) (i j : JournalState DiskState)
+    → IsAt d conforming seeds roles qs ls xs p m i → ArePartyActors d conforming seeds roles xs
+    → IsGood (c d conforming seeds roles qs ls xs) (s d conforming seeds roles qs ls xs) → AreJournaled d xs
+    → IsDiskDuringSigning m.signed new.signed j.disk.held → HaveDisks d (histories ls) (set xs p (Conforming new j))
+crashed_disks d conforming seeds roles qs ls xs p m new i j place actors good k between =
     let signed = have_signed d conforming seeds roles (s d conforming seeds roles qs ls xs) xs actors good refl in
-    disks_set d (histories ls) xs js p new j k (λ v l apart lt here. signed v l lt here) place.below
-    (between_disk d p (histories ls) m.signed new.signed j.disk.held between (signed p m place.below place.here))
+    disks_set d (histories ls) xs p new j k (λ v x apart lt here. signed v x lt here) place.below
+    (between_disk d p (histories ls) m.signed new.signed j.disk.held between (signed p (Conforming m i) place.below place.here))
 
 -- memory ran out in its act: before its call, or after it
 module _ (d : Deal) (conforming : List Bool) (seeds : Seeds) (roles : List Role) (qs : List Question) (ls : List LedgerState) (xs : List Actor)
-    (js : List (Option (JournalState DiskState))) (sw : ℕ → Bool) (p : ℕ) (m new : MachineState) (b : Histories) (j : JournalState DiskState)
-    (place : IsAt d conforming seeds roles qs ls xs p m) (actors : ArePartyActors d conforming seeds roles xs)
+    (sw : ℕ → Bool) (p : ℕ) (m new : MachineState) (b : Histories) (i j : JournalState DiskState)
+    (place : IsAt d conforming seeds roles qs ls xs p m i) (actors : ArePartyActors d conforming seeds roles xs)
     (ready : IsReadyCast (c d conforming seeds roles qs ls xs)) (known : p < d.graph.n)
-    (good : IsGood (c d conforming seeds roles qs ls xs) (s d conforming seeds roles qs ls xs)) (k : AreMachineJournals d xs js) where
+    (good : IsGood (c d conforming seeds roles qs ls xs) (s d conforming seeds roles qs ls xs)) (k : AreJournaled d xs) where
   abbrev after : MachineState
   after = next_machine sw m (next_due m) (histories ls)
 
   abbrev called : Histories
   called = next_book sw m (next_due m) (histories ls)
 
-  after_signed : HaveSigned d called (set xs p (Conforming after))
+  after_signed : HaveSigned d called (set xs p (Conforming after j))
   after_signed =
-      have_signed d conforming seeds roles (state d qs (set xs p (Conforming after)) called) (set xs p (Conforming after))
-      (actor_set d conforming seeds roles xs p (Conforming after) actors place.below (owner_after place.is))
-      (subst (IsGood (c d conforming seeds roles qs ls xs)) (sym (acted d conforming seeds roles qs ls xs sw p m after called place refl refl))
+      have_signed d conforming seeds roles (state d qs (set xs p (Conforming after j)) called) (set xs p (Conforming after j))
+      (actor_set d conforming seeds roles xs p (Conforming after j) actors place.below (owner_after place.is))
+      (subst (IsGood (c d conforming seeds roles qs ls xs)) (sym (acted d conforming seeds roles qs ls xs sw p m after i j called place refl refl))
       (steps_on_are_good sw (c d conforming seeds roles qs ls xs) (s d conforming seeds roles qs ls xs) (Act p) ready known good)) refl
     where
       same : (o : Option Action) → IsSameOwner m (next_machine sw m o (histories ls))
       same None = record { deal = refl; me = refl; seed = refl }
       same (Some x) = record { deal = refl; me = refl; seed = refl }
 
-      owner_after : IsPartyActor d (get_or conforming p false) (get_or seeds p None) (get_or roles p kinds.Manual) p (Conforming m)
-          → IsPartyActor d (get_or conforming p false) (get_or seeds p None) (get_or roles p kinds.Manual) p (Conforming after)
+      owner_after : IsPartyActor d (get_or conforming p false) (get_or seeds p None) (get_or roles p kinds.Manual) p (Conforming m i)
+          → IsPartyActor d (get_or conforming p false) (get_or seeds p None) (get_or roles p kinds.Manual) p (Conforming after j)
       owner_after is =
-          owned d (get_or conforming p false) (get_or seeds p None) (get_or roles p kinds.Manual) p m after (same (next_due m)) is
+          owned d (get_or conforming p false) (get_or seeds p None) (get_or roles p kinds.Manual) p m after i j (same (next_due m)) is
 
   here_signed : IsSigned d p called after.signed
   here_signed =
-      after_signed p after (subst (λ n. p < n) (sym (length-set xs p (Conforming after))) place.below)
-      (sym (get_or-set_same xs p (Conforming after) (Conforming after) place.below))
+      after_signed p (Conforming after j) (subst (λ n. p < n) (sym (length-set xs p (Conforming after j))) place.below)
+      (sym (get_or-set_same xs p (Conforming after j) (Conforming after j) place.below))
 
-  made_disks : (b ≡ called) × (new.signed ≡ after.signed) × ShowsAll new.signed j.disk.held → AreMachineDisks d b (set xs p (Conforming new)) (set js p (Some j))
+  made_disks : (b ≡ called) × (new.signed ≡ after.signed) × ShowsAll new.signed j.disk.held → HaveDisks d b (set xs p (Conforming new j))
   made_disks e =
-      subst (λ (h : Histories). AreMachineDisks d h (set xs p (Conforming new)) (set js p (Some j))) (sym e.0)
-      (disks_set d called xs js p new j k (others_signed d called xs p (Conforming after) after_signed) place.below
+      subst (λ (h : Histories). HaveDisks d h (set xs p (Conforming new j))) (sym e.0)
+      (disks_set d called xs p new j k (others_signed d called xs p (Conforming after j) after_signed) place.below
       (between_disk d p called new.signed new.signed j.disk.held (exact_between new.signed new.signed j.disk.held refl e.2)
       (subst (λ (l : List (Option Hashkey)). IsSigned d p called l) (sym e.1) here_signed)))
 
   pub stopped_disks : {A E : Type 0} (r : Result A E) → OnErr r (IsDiskDuringSigning m.signed new.signed j.disk.held)
       → OnErr r ((b ≡ histories ls) ⊎ ((b ≡ called) × (new.signed ≡ after.signed) × ShowsAll new.signed j.disk.held))
-      → OnErr r (AreMachineDisks d b (set xs p (Conforming new)) (set js p (Some j)))
+      → OnErr r (HaveDisks d b (set xs p (Conforming new j)))
   stopped_disks (Ok x) between made = tt
   stopped_disks (Err e) between (inl is) =
-      subst (λ (h : Histories). AreMachineDisks d h (set xs p (Conforming new)) (set js p (Some j))) (sym is)
-      (crashed_disks d conforming seeds roles qs ls xs js p m new j place actors good k between)
+      subst (λ (h : Histories). HaveDisks d h (set xs p (Conforming new j))) (sym is)
+      (crashed_disks d conforming seeds roles qs ls xs p m new i j place actors good k between)
   stopped_disks (Err e) between (inr is) = made_disks is
 
-pub all_disks : (w : Inside) → WorldHolds w → AreMachineDisks w.deal (histories w.ledgers.items) w.actors.items w.journals.items
+pub all_disks : (w : Inside) → WorldHolds w → HaveDisks w.deal (histories w.ledgers.items) w.actors.items
 all_disks w k = go w.stopped refl
   where
-    go : (b : Bool) → w.stopped ≡ b → AreMachineDisks w.deal (histories w.ledgers.items) w.actors.items w.journals.items
+    go : (b : Bool) → w.stopped ≡ b → HaveDisks w.deal (histories w.ledgers.items) w.actors.items
     go true e = k.disks e
     go false e =
-        disks_stay w.deal (histories w.ledgers.items) w.actors.items w.journals.items (k.journals e)
+        disks_stay w.deal (histories w.ledgers.items) w.actors.items (k.journals e)
         (have_signed w.deal w.conforming w.seeds w.roles (inside_run_state w) w.actors.items k.actors (k.good e) refl)
 
--- The disk of a conforming party.
-module _ (d : Deal) (conforming : List Bool) (seeds : List (Option (List ℕ))) (roles : List Role) (qs : List Question) (ls : List LedgerState) (xs : List Actor)
-    (js : List (Option (JournalState DiskState))) (actors : ArePartyActors d conforming seeds roles xs) (b : Histories) (k : AreMachineDisks d b xs js) (p : ℕ)
-    (known : p < d.graph.n) (conforms : get_or conforming p false ≡ true) (o : Option (JournalState DiskState)) (here : o ≡ get_or js p o) where
-  low : p < length xs
-  low = subst (λ n. p < n) (sym actors.one_each) known
-
-  pub disk_at : IsSomeDisk d p b (state_notes (state d qs xs (histories ls)) p).signed o
-  disk_at = go (get_or xs p Manual) (get_or_default xs p Manual (get_or xs p Manual) low)
-    where
-      go : (x : Actor) → x ≡ get_or xs p x → IsSomeDisk d p b (state_notes (state d qs xs (histories ls)) p).signed o
-      go (Conforming m) at =
-          let is = actors.each p (Conforming m) low at in
-          subst (λ (n : Notes). IsSomeDisk d p b n.signed o)
-          (sym (notes_at d conforming seeds roles qs ls xs p m (record { below = low; here = at; is = is }))) (k.each p m o low at here)
-      go (Planned n) at = absurd (false≢true (sym (actors.each p (Planned n) low at).0 ∙ conforms))
-      go Manual at = absurd (false≢true (sym (actors.each p Manual low at).0 ∙ conforms))
+-- where the world isn't stopped, memory didn't run out
+pub ok_unless : {A E : Type 0} {P : Type 0} (r : Result A E) (stopped : Bool) → stopped ≡ is_err r → stopped ≡ false → OnOk r P → P
+ok_unless (Ok x) stopped is on h = h
+ok_unless (Err e) stopped is on h = absurd (false≢true (sym on ∙ is))

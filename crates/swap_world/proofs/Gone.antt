@@ -10,20 +10,20 @@ use Rattle.swap_job.specs.Resolved.{resolved}
 use Rattle.deviators.specs.Script.{next_call, moves_left}
 use Rattle.swap_job.specs.Step.{CanStep}
 use Rattle.swap_job.specs.declared.event.Event.{Event}
-use Rattle.swap_job.specs.declared.event.Event.TheVariants.{Tick, Look, Act, Call as Made}
+use Rattle.swap_job.specs.declared.event.Event.TheVariants.{Tick, Look, Act, Call as Made, Crash}
 use Rattle.swap_job.specs.declared.job.Role.{Role}
 use Rattle.swap_job.specs.declared.job.Role.TheVariants.{Conforming, Manual, Script, Strategy}
 use Rattle.swap_job.specs.declared.moves.Move.{Move}
 use Rattle.swap_rules.specs.Due.{Action}
 use Rattle.swap_run.specs.Asked.{Answers, with_answers, is_strategy}
-use Rattle.swap_run.specs.Run.{Cast, Question, State, conforms, party_role, party_plan, look, next_action, watch, after_turn, continued_run, step}
+use Rattle.swap_run.specs.Run.{Cast, Question, State, conforms, party_role, party_plan, look, next_action, watch, after_turn, continued_run, is_planned, step}
 use Rattle.swap_run.specs.Called.{Called, by_due, role_call, apply_step}
 use Rattle.swap_run.specs.Steps.{IsIntermediateBook}
 use Rattle.swap_run.proofs.Along.{along_start, along_more, along_after, along_step}
 use Rattle.swap_world.specs.Cast.{asks}
 use Rattle.swap_world.specs.Value.{WorldState, world_cast, answering_cast, Continues}
 use Rattle.swap_world.specs.Actors.{AreHeld}
-use Rattle.swap_world.specs.Gone.{MayGive, Answered, MayBeGiven, HasAsked, HasGone, IsCutMidway, IsCutInEvent}
+use Rattle.swap_world.specs.Gone.{MayGive, Answered, MayBeGiven, HasAsked, HasGone, IsCutAt, IsCutMidway, IsCutInEvent}
 use Rattle.swap_world.specs.On.{event_told, told_of_call}
 use Rattle.swap_world.specs.declared.call_outcome.Told.{Told}
 use Rattle.swap_world.specs.Stopped.{IsStopped}
@@ -214,6 +214,9 @@ quiet_tick sw c s a k = record { same = λ g. refl; asked = refl }
 pub quiet_look : (sw : ℕ → Bool) (c : Cast) (s : State) (v a : ℕ) → IsQuiet (stepping sw (Look v a)) c s
 quiet_look sw c s v a = record { same = λ g. refl; asked = either_asked (conforms c v) s (look s v a) (watch c s v a) refl refl }
 
+pub quiet_crash : (sw : ℕ → Bool) (c : Cast) (s : State) (v k image : ℕ) → IsQuiet (stepping sw (Crash v k image)) c s
+quiet_crash sw c s v k image = record { same = λ g. refl; asked = refl }
+
 pub quiet_call : (sw : ℕ → Bool) (c : Cast) (s : State) (v : ℕ) (mv : Move) → IsQuiet (stepping sw (Made v mv)) c s
 quiet_call sw c s v mv = record {
   same = λ g. call_is sw (with_answers c g) s v mv ∙ (take_same sw c g s v (resolved c.deal c.seeds s.book mv) ∙ sym (call_is sw c s v mv));
@@ -310,6 +313,26 @@ conforming_alone c v false e = absurd (cc e)
 pub alone_conforming : (c : Cast) (v : ℕ) → conforms c v ≡ true → asks c v ≡ false
 alone_conforming c v e = conforming_alone c v (conforms c v) e
 
+role_alone : (c : Cast) (v : ℕ) (b : Bool) → is_strategy (party_role c v) ≡ false → cond b false (is_strategy (party_role c v)) ≡ false
+role_alone c v true e = refl
+role_alone c v false e = e
+
+-- and so of one whose role names no strategy
+pub alone_by_role : (c : Cast) (v : ℕ) → is_strategy (party_role c v) ≡ false → asks c v ≡ false
+alone_by_role c v e = role_alone c v (conforms c v) e
+
+pub names_none : (role : Role) → ((name : List ℕ) → role ≡ Strategy name → ⊥) → is_strategy role ≡ false
+names_none Conforming other = refl
+names_none Manual other = refl
+names_none (Script moves) other = refl
+names_none (Strategy name) other = absurd (other name refl)
+
+pub unplanned_names_none : (role : Role) → is_planned role ≡ false → is_strategy role ≡ false
+unplanned_names_none Conforming e = refl
+unplanned_names_none Manual e = refl
+unplanned_names_none (Script moves) e = refl
+unplanned_names_none (Strategy name) e = e
+
 -- what is told of a call, whatever is answered
 pub told_any : {E : Type 0} (r : Result Told E) (new : WorldState) (f : Answers → Told) (t : Told) → ((g : Answers) → f g ≡ t) → IfOk r (λ u. u ≡ t)
     → IfOk r (λ u. (g : Answers) → Continues new g → u ≡ f g)
@@ -344,11 +367,10 @@ unmoved (Err x) gives f old new is = record {
   book = inl (ap (λ (w : WorldState). w.state.book) is);
 }
 
--- a quiet event in which memory ran out, before the call or after it
-pub cut_to : (gives : MayGive) (f : Cast → State → State) (old new : WorldState) → IsQuiet f (world_cast old) old.state → world_cast new ≡ world_cast old
-    → new.state.asked ≡ old.state.asked → new.answers ≡ old.answers
-    → (new.state.book ≡ old.state.book) ⊎ (new.state.book ≡ (f (world_cast old) old.state).book) → IsCutMidway gives f old new
-cut_to gives f old new quiet cast asked answers book = record { cast = cast; asked = nothing_asked gives old new asked answers; book = by book }
+-- or after the call
+pub cut_to : (gives : MayGive) (f : Cast → State → State) (old new : WorldState) → IsQuiet f (world_cast old) old.state
+    → IsCutAt (f (world_cast old) old.state) old new → IsCutMidway gives f old new
+cut_to gives f old new quiet k = record { cast = k.cast; asked = nothing_asked gives old new k.asked k.answers; book = by k.book }
   where
     by : (new.state.book ≡ old.state.book) ⊎ (new.state.book ≡ (f (world_cast old) old.state).book)
         → (new.state.book ≡ old.state.book) ⊎ ((g : Answers) → Continues new g → new.state.book ≡ (f (answering_cast old g) old.state).book)
@@ -356,10 +378,9 @@ cut_to gives f old new quiet cast asked answers book = record { cast = cast; ask
     by (inr h) = inr (λ g k. h ∙ ap (λ (s : State). s.book) (sym (quiet.same g)))
 
 pub cut : {A E : Type 0} (r : Result A E) (gives : MayGive) (f : Cast → State → State) (old new : WorldState) → IsQuiet f (world_cast old) old.state
-    → OnErr r (world_cast new ≡ world_cast old) → OnErr r (new.state.asked ≡ old.state.asked) → OnErr r (new.answers ≡ old.answers)
-    → OnErr r ((new.state.book ≡ old.state.book) ⊎ (new.state.book ≡ (f (world_cast old) old.state).book)) → OnErr r (IsCutMidway gives f old new)
-cut (Ok x) gives f old new quiet cast asked answers book = tt
-cut (Err x) gives f old new quiet cast asked answers book = cut_to gives f old new quiet cast asked answers book
+    → OnErr r (IsCutAt (f (world_cast old) old.state) old new) → OnErr r (IsCutMidway gives f old new)
+cut (Ok x) gives f old new quiet k = tt
+cut (Err x) gives f old new quiet k = cut_to gives f old new quiet k
 
 -- a cut world that stops
 pub cut_still : (gives : MayGive) (f : Cast → State → State) (old mid new : WorldState) → world_cast new ≡ world_cast mid → new.answers ≡ mid.answers

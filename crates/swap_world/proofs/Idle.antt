@@ -37,8 +37,10 @@ use Rattle.swap_world.specs.Cast.{signing_wallet}
 use Rattle.swap_world.specs.Acting.{histories}
 use Rattle.swap_world.specs.Inside.{IsPartyActor, ArePartyActors, AreArcLedgers}
 use Rattle.swap_world.specs.Quiet.{IsRaised, AreRaised, IsQuietState, IsLow, IsCalm, IsCalmActor, IsReadyActor, HaveArcs}
-use Rattle.swap_world.specs.declared.actor.Actor.{Actor}
-use Rattle.swap_world.specs.declared.actor.Actor.TheVariants.{Conforming, Planned, Manual}
+use Rattle.wallet_journal.specs.Journal.{JournalState}
+use Rattle.wallet_journal.specs.Memory.{DiskState}
+use Rattle.swap_world.specs.Players.{Actor}
+use Rattle.swap_world.specs.declared.player.Player.TheVariants.{Conforming, Planned, Manual}
 use Rattle.swap_world.proofs.WholeHistory.{whole}
 use Rattle.swap_world.proofs.States.{IsAt, c, s, notes_at}
 use Rattle.swap_world.proofs.Worlds.{begins}
@@ -65,7 +67,7 @@ calm_less : (n m : ℕ) (b : Histories) (near : List ℕ) (x : MachineState) →
 calm_less n m b near x l k = record { until = k.until; rests = k.rests; low = all_low_less k.until n m x.known b near l k.low }
 
 pub actor_less : (n m : ℕ) (b : Histories) (near : List ℕ) (x : Actor) → m ≤ n → IsCalmActor n b near x → IsCalmActor m b near x
-actor_less n m b near (Conforming x) l k = calm_less n m b near x l k
+actor_less n m b near (Conforming x j) l k = calm_less n m b near x l k
 actor_less n m b near (Planned x) l k = k
 actor_less n m b near Manual l k = k
 
@@ -134,16 +136,17 @@ module _ (d : Deal) (conforming : List Bool) (seeds : List (Option (List ℕ))) 
   abbrev book : Histories
   book = histories ls
 
-  machine_idles : (n i : ℕ) (p : ℕ) (m : MachineState) (after : Histories) → i < n → p < d.graph.n → IsAt d conforming seeds roles qs ls xs p m
+  machine_idles : (n i : ℕ) (p : ℕ) (m : MachineState) (o : JournalState DiskState) (after : Histories) → i < n → p < d.graph.n
+      → IsAt d conforming seeds roles qs ls xs p m o
       → IsCalm n book (adjacent_arcs d p) m → AreRaised i book after → IsIdle cast after p (state_notes now p)
-  machine_idles n i p m after l lp at calm raised =
+  machine_idles n i p m o after l lp at calm raised =
       let near = adjacent_arcs d p in
       let k = m.known in
-      let noted : state_notes now p ≡ record { known = k; signed = m.signed } = notes_at d conforming seeds roles qs ls xs p m at in
+      let noted : state_notes now p ≡ record { known = k; signed = m.signed } = notes_at d conforming seeds roles qs ls xs p m o at in
       let long : length k ≡ length d.graph.arcs = ap (λ (z : Notes). length z.known) (sym noted) ∙ (good.notes p lp at.is.0).one_each in
       let low : All (λ a. a < length d.graph.arcs) near = near_low d p in
       let fresh = λ (x : ℕ) (j : IsElement x near).
-      let b = begins d conforming seeds roles qs ls xs ready good p lp m at x in
+      let b = begins d conforming seeds roles qs ls xs ready good p lp m o at x in
       let quiet = all_in (λ a. IsLow (length (history k a)) calm.until n (history book a)) near x calm.low j in
       let lx : x < length d.graph.arcs = all_in (λ a. a < length d.graph.arcs) near x low j in
       let r = raised x (subst (λ z. x < z) (sym good.legal.one_each) lx) in
@@ -175,15 +178,15 @@ module _ (d : Deal) (conforming : List Bool) (seeds : List (Option (List ℕ))) 
   idles_by : (n i : ℕ) (p : ℕ) (x : Actor) (after : Histories) → i < n → p < d.graph.n → p < length xs → x ≡ get_or xs p x
       → IsPartyActor d (slice_index_or conforming p false) (slice_index_or seeds p None) (slice_index_or roles p kinds.Manual) p x
       → conforms cast p ≡ true → IsCalmActor n book (adjacent_arcs d p) x → AreRaised i book after → IsIdle cast after p (state_notes now p)
-  idles_by n i p (Conforming m) after l lp lx here is cp calm raised =
-      machine_idles n i p m after l lp (record { below = lx; here = here; is = is }) calm raised
+  idles_by n i p (Conforming m j) after l lp lx here is cp calm raised =
+      machine_idles n i p m j after l lp (record { below = lx; here = here; is = is }) calm raised
   idles_by n i p (Planned x) after l lp lx here is cp calm raised = absurd calm
   idles_by n i p Manual after l lp lx here is cp calm raised = absurd (false≢true (sym is.0 ∙ cp))
 
   plain_by : (n p : ℕ) (x : Actor)
       → IsPartyActor d (slice_index_or conforming p false) (slice_index_or seeds p None) (slice_index_or roles p kinds.Manual) p x
       → conforms cast p ≡ false → IsCalmActor n book (adjacent_arcs d p) x → is_planned (party_role cast p) ≡ false
-  plain_by n p (Conforming m) is cp calm = absurd (false≢true (sym cp ∙ is.0))
+  plain_by n p (Conforming m j) is cp calm = absurd (false≢true (sym cp ∙ is.0))
   plain_by n p (Planned x) is cp calm = absurd calm
   plain_by n p Manual is cp calm = is.1
 
@@ -204,13 +207,13 @@ module _ (d : Deal) (conforming : List Bool) (seeds : List (Option (List ℕ))) 
   ready_by : (p : ℕ) (x : Actor) → AreArcLedgers d ls → p < d.graph.n → p < length xs → x ≡ get_or xs p x
       → IsPartyActor d (slice_index_or conforming p false) (slice_index_or seeds p None) (slice_index_or roles p kinds.Manual) p x
       → IsReadyActor (length ls) book (adjacent_arcs d p) x
-  ready_by p (Conforming m) ledgers lp lx here is =
-      let at : IsAt d conforming seeds roles qs ls xs p m = record { below = lx; here = here; is = is } in
+  ready_by p (Conforming m j) ledgers lp lx here is =
+      let at : IsAt d conforming seeds roles qs ls xs p m j = record { below = lx; here = here; is = is } in
       let places : HaveArcs (length ls) m.deal (adjacent_arcs d p) = record {
         one_each = ledgers.one_each ∙ ap (λ (e : Deal). length e.graph.arcs) (sym is.1);
         each = subst (λ (e : Deal). All (λ a. a < length e.graph.arcs) (adjacent_arcs d p)) (sym is.1) (near_low d p);
       } in
-      (places, λ a. begins d conforming seeds roles qs ls xs ready good p lp m at a)
+      (places, λ a. begins d conforming seeds roles qs ls xs ready good p lp m j at a)
   ready_by p (Planned x) ledgers lp lx here is = tt
   ready_by p Manual ledgers lp lx here is = tt
 

@@ -27,6 +27,26 @@ pub either : {P Q R S : Type 0} → (P → R) → (Q → S) → P ⊎ Q → R �
 either f g (inl p) = inl (f p)
 either f g (inr q) = inr (g q)
 
+-- What holds of each element of a list.
+
+-- with another one in the place of p, where it holds of those in other places
+pub each_but : {A : Type 0} (P : ℕ → A → Type 0) (xs : List A) (p : ℕ) (y : A)
+    → ((v : ℕ) (x : A) → v ≢ p → v < length xs → x ≡ get_or xs v x → P v x) → p < length xs → P p y
+    → (v : ℕ) (x : A) → v < length (set xs p y) → x ≡ get_or (set xs p y) v x → P v x
+each_but {A = A} P xs p y others lt here v x l e = at (same_or_not v p)
+  where
+    at : (v ≡ p) ⊎ (v ≢ p) → P v x
+    at (inl s) = subst (λ u. P u x) (sym s) (subst (P p) (sym (e ∙ (ap (λ u. get_or (set xs p y) u x) s ∙ get_or-set_same xs p y x lt))) here)
+    at (inr n) = others v x n (subst (λ n. v < n) (length-set xs p y) l) (e ∙ get_or-set_other xs p v y x n)
+
+-- with another one in the place of p, where it holds of all
+pub each_set : {A : Type 0} (P : ℕ → A → Type 0) (xs : List A) (p : ℕ) (y : A)
+    → ((v : ℕ) (x : A) → v < length xs → x ≡ get_or xs v x → P v x) → p < length xs → P p y
+    → (v : ℕ) (x : A) → v < length (set xs p y) → x ≡ get_or (set xs p y) v x → P v x
+each_set P xs p y all lt here = each_but P xs p y (λ v x n. all v x) lt here
+
+-- The histories of ledgers.
+
 -- the history of the ledger that was read
 pub history_at : (ls : List LedgerState) (a : ℕ) (l : LedgerState) → a < length ls → l ≡ get_or ls a l → history (histories ls) a ≡ l.history
 history_at ls a l lt is = get_or-map (λ (x : LedgerState). x.history) ls a l [] lt ∙ ap (λ (x : LedgerState). x.history) (sym is)
@@ -80,15 +100,7 @@ moved d a old new k ed ea legal = record {
 
 pub ledger_set : (d : Deal) (ls : List LedgerState) (a : ℕ) (y : LedgerState) → AreArcLedgers d ls → a < length ls → IsArcLedger d a y
     → AreArcLedgers d (set ls a y)
-ledger_set d ls a y k lt i = record {
-  one_each = length-set ls a y ∙ k.one_each;
-  each = λ b x l e. at b x (subst (λ n. b < n) (length-set ls a y) l) e (same_or_not b a);
-}
-  where
-    at : (b : ℕ) (x : LedgerState) → b < length ls → x ≡ get_or (set ls a y) b x → (b ≡ a) ⊎ (b ≢ a) → IsArcLedger d b x
-    at b x l e (inl s) =
-        subst (λ u. IsArcLedger d u x) (sym s) (subst (IsArcLedger d a) (sym (e ∙ (ap (λ u. get_or (set ls a y) u x) s ∙ get_or-set_same ls a y x lt))) i)
-    at b x l e (inr n) = k.each b x l (e ∙ get_or-set_other ls a b y x n)
+ledger_set d ls a y k lt i = record { one_each = length-set ls a y ∙ k.one_each; each = each_set (IsArcLedger d) ls a y k.each lt i }
 
 -- one more history
 pub one_more : (ls : List LedgerState) (k : ℕ) (l : LedgerState) (hs : List (List Entry)) → k < length ls → l ≡ get_or ls k l

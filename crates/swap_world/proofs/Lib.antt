@@ -5,7 +5,6 @@ pub mod Signed
 pub mod WholeHistory
 pub mod Plans
 pub mod States
-pub mod Kept
 pub mod Restarts
 pub mod Disks
 pub mod Relearns

@@ -23,10 +23,10 @@ use Rattle.party_machine.proofs.Good.{fitting_is_good}
 use Rattle.swap_world.specs.Cast.{job_cast, signing_wallet}
 use Rattle.swap_world.specs.Actors.{by_role, role_actor, job_actor, team, wrong_lock_if_seeded, AllFit, AreHeld, HaveRoles, ConformingHaveSeeds}
 use Rattle.swap_world.specs.Inside.{actor_notes, actor_plan, IsPartyActor, ArePartyActors}
-use Rattle.swap_world.specs.declared.actor.Actor.{Actor}
-use Rattle.swap_world.specs.declared.actor.Actor.TheVariants.{Manual}
+use Rattle.swap_world.specs.Players.{Racer}
+use Rattle.swap_world.specs.declared.player.Player.TheVariants.{Manual}
 
--- Each place has its party's actor.
+-- Each place has its party's player.
 
 pub team_length : (job : Job) → length (team job) ≡ job.deal.graph.n
 team_length job = length-map-range_with_len (job_actor job) 0 job.deal.graph.n
@@ -36,8 +36,8 @@ team_at job p lt = get_or-map-range_with_len (job_actor job) 0 job.deal.graph.n 
 
 -- What each is.
 
--- what is known of the actor of party p
-pub record IsOwn (job : Job) (p : ℕ) (x : Actor) : Type 0 where
+-- what is known of the player of party p
+pub record IsOwn (job : Job) (p : ℕ) (x : Racer) : Type 0 where
   pub is : IsPartyActor job.deal (slice_index_or job.conforming p false) (slice_index_or job.seeds p None) (job_role job p) p x
   pub notes : actor_notes job.deal x ≡ no_notes job.deal
   pub plan : actor_plan job.deal x ≡ first_plan job.deal (job_role job p)

@@ -1,5 +1,5 @@
 -- What a world keeps at each event.
-use Rattle.std.proofs.Common.{◌≡◌, Result, Ok, Err, OnOk, OnErr, ◌⊎◌, inl, inr, ℕ, ◌<◌, Bool, false, List, [], ◌∷◌, length, get_or, set, take, Option, Some}
+use Rattle.std.proofs.Common.{◌≡◌, Result, Ok, Err, OnOk, OnErr, ◌⊎◌, inl, inr, ℕ, ◌<◌, Bool, false, List, [], ◌∷◌, length, get_or, take, Option, Some}
 use Rattle.std.proofs.Common.{refl, sym, ap, ap₂, ◌∙◌, subst}
 use Rattle.std.specs.Result.{is_err}
 use Rattle.std.specs.List.{All}
@@ -7,7 +7,6 @@ use Rattle.std.proofs.lemmas.List.Elements.{All-head, All-tail}
 use Rattle.std.proofs.lemmas.Bool.{false≢true}
 use Rattle.swap_digraph.specs.declared.deal.Deal.{Deal}
 use Rattle.ledger_core.specs.declared.entry.Call.{Call}
-use Rattle.ledger_core.specs.declared.entry.Entry.{Entry}
 use Rattle.ledger_core.specs.Value.{LedgerState}
 use Rattle.ledger_core.specs.Book.{Histories, history}
 use Rattle.swap_rules.specs.Machine.{Begins}
@@ -31,14 +30,15 @@ use Rattle.swap_run.proofs.Swept.{steps_on_are_good}
 use Rattle.swap_run.proofs.Plans.{plan_view}
 use Rattle.party_machine.specs.Machine.{MachineState, next_due}
 use Rattle.swap_world.specs.Value.{WorldState, world_answers, world_cast, answering_cast, Continues}
-use Rattle.swap_world.specs.Gone.{MayGive, HasGone}
+use Rattle.swap_world.specs.Gone.{MayGive, HasGone, IsCutAt}
 use Rattle.swap_world.specs.On.{IsCutWithSweeps}
 use Rattle.swap_world.specs.Stopped.{IsStopped}
 use Rattle.swap_world.specs.Inside.{IsPartyActor, ArePartyActors}
 use Rattle.swap_world.specs.Acting.{IsMakable, IsSameOwner, histories}
-use Rattle.swap_world.specs.declared.actor.Actor.{Actor}
-use Rattle.swap_world.specs.declared.actor.Actor.TheVariants.{Conforming, Planned}
-use Rattle.swap_world.proofs.Ledgers.{history_at}
+use Rattle.wallet_journal.specs.Journal.{JournalState}
+use Rattle.wallet_journal.specs.Memory.{DiskState}
+use Rattle.swap_world.specs.Players.{Actor}
+use Rattle.swap_world.specs.declared.player.Player.TheVariants.{Conforming, Planned}
 use Rattle.swap_world.proofs.States.{IsAt, IsPlanAt, c, s, notes_at, plan_at, next_is}
 use Rattle.swap_rules.proofs.Cases.{first_in}
 use Rattle.swap_job.specs.Crafted.{Seeds}
@@ -55,49 +55,30 @@ world d conforming seeds roles answers stopped st = record {
   stopped = stopped;
 }
 
--- an actor that was found is a conforming one
-pub found : (xs : List Actor) (p : ℕ) (x : Actor) (m : MachineState) → x ≡ Conforming m → x ≡ get_or xs p x → Conforming m ≡ get_or xs p (Conforming m)
-found xs p x m e h = subst (λ y. y ≡ get_or xs p y) e h
+-- a player that was found, by what it is
+pub found : (xs : List Actor) (p : ℕ) (x y : Actor) → x ≡ y → x ≡ get_or xs p x → y ≡ get_or xs p y
+found xs p x y e h = subst (λ z. z ≡ get_or xs p z) e h
 
--- an actor that was found is one that follows a script or a strategy
-pub found_plan : (xs : List Actor) (p : ℕ) (x : Actor) (n : Plan) → x ≡ Planned n → x ≡ get_or xs p x → Planned n ≡ get_or xs p (Planned n)
-found_plan xs p x n e h = subst (λ y. y ≡ get_or xs p y) e h
-
--- an actor that was found is in its place
+-- a player that was found is in its place
 pub placed : (d : Deal) (conforming : List Bool) (seeds : Seeds) (roles : List Role) (qs : List Question) (ls : List LedgerState)
-    (xs : List Actor) (p : ℕ) (x : Actor) (m : MachineState)
-    → ArePartyActors d conforming seeds roles xs → p < d.graph.n → x ≡ Conforming m → x ≡ get_or xs p x → IsAt d conforming seeds roles qs ls xs p m
-placed d conforming seeds roles qs ls xs p x m actors lt e h =
+    (xs : List Actor) (p : ℕ) (x : Actor) (m : MachineState) (j : JournalState DiskState)
+    → ArePartyActors d conforming seeds roles xs → p < d.graph.n → x ≡ Conforming m j → x ≡ get_or xs p x → IsAt d conforming seeds roles qs ls xs p m j
+placed d conforming seeds roles qs ls xs p x m j actors lt e h =
     let low = subst (λ n. p < n) (sym actors.one_each) lt in
-    let here = found xs p x m e h in
-    record { below = low; here = here; is = actors.each p (Conforming m) low here }
+    let here = found xs p x (Conforming m j) e h in
+    record { below = low; here = here; is = actors.each p (Conforming m j) low here }
 
 pub plan_placed : (d : Deal) (conforming : List Bool) (seeds : Seeds) (roles : List Role) (qs : List Question) (ls : List LedgerState)
     (xs : List Actor) (p : ℕ) (x : Actor) (n : Plan)
     → ArePartyActors d conforming seeds roles xs → p < d.graph.n → x ≡ Planned n → x ≡ get_or xs p x → IsPlanAt d conforming seeds roles qs ls xs p n
 plan_placed d conforming seeds roles qs ls xs p x n actors lt e h =
     let low = subst (λ l. p < l) (sym actors.one_each) lt in
-    let here = found_plan xs p x n e h in
+    let here = found xs p x (Planned n) e h in
     record { below = low; here = here; is = actors.each p (Planned n) low here }
 
--- what a machine learnt of a ledger
-pub know : (m new : MachineState) (ls : List LedgerState) (a : ℕ) (l : LedgerState) → l.arc ≡ a → a < length ls → l ≡ get_or ls a l
-    → new ≡ record { deal = m.deal; me = m.me; seed = m.seed; known = set m.known l.arc l.history; signed = m.signed }
-    → new ≡ record { deal = m.deal; me = m.me; seed = m.seed; known = set m.known a (history (histories ls) a); signed = m.signed }
-know m new ls a l ea lt is e = e ∙ ap₂ (λ (x : ℕ) (h : List Entry). after x h) ea (sym (history_at ls a l lt is))
-  where
-    after : ℕ → List Entry → MachineState
-    after x h = record { deal = m.deal; me = m.me; seed = m.seed; known = set m.known x h; signed = m.signed }
-
--- a machine after a look is of the same owner, whether memory ran out or not
-pub same_owner : {A E : Type 0} (r : Result A E) (m new : MachineState) (k : Histories)
-    → OnOk r (new ≡ record { deal = m.deal; me = m.me; seed = m.seed; known = k; signed = m.signed }) → OnErr r (new ≡ m) → IsSameOwner m new
-same_owner (Ok x) m new k ok err = record { deal = ap (λ y. y.deal) ok; me = ap (λ y. y.me) ok; seed = ap (λ y. y.seed) ok }
-same_owner (Err e) m new k ok err = record { deal = ap (λ y. y.deal) err; me = ap (λ y. y.me) err; seed = ap (λ y. y.seed) err }
-
-pub owned : (d : Deal) (conforms : Bool) (seed : Option (List ℕ)) (role : Role) (p : ℕ) (m new : MachineState) → IsSameOwner m new
-    → IsPartyActor d conforms seed role p (Conforming m) → IsPartyActor d conforms seed role p (Conforming new)
-owned d conforms seed role p m new k i = (i.0, k.deal ∙ i.1, k.me ∙ i.2, i.3 ∙ ap (λ (z : List ℕ). Some z) (sym k.seed))
+pub owned : (d : Deal) (conforms : Bool) (seed : Option (List ℕ)) (role : Role) (p : ℕ) (m new : MachineState) (j h : JournalState DiskState)
+    → IsSameOwner m new → IsPartyActor d conforms seed role p (Conforming m j) → IsPartyActor d conforms seed role p (Conforming new h)
+owned d conforms seed role p m new j h k i = (i.0, k.deal ∙ i.1, k.me ∙ i.2, i.3 ∙ ap (λ (z : List ℕ). Some z) (sym k.seed))
 
 -- the state after an event, or as before where memory ran out, is good
 pub good_on : {A E : Type 0} (r : Result A E) (sw : ℕ → Bool) (cast : Cast) (old new : State) (e : Event) → OnOk r (new ≡ apply_step sw cast old e)
@@ -238,6 +219,15 @@ acted_on (Ok x) d conforming seeds roles answers before after old new is goes_on
     ap₂ (λ (b : Bool) (st : State). world d conforming seeds roles answers b st) (is ∙ sym goes_on) ok
 acted_on (Err x) d conforming seeds roles answers before after old new is goes_on ok = tt
 
+-- an act that ran out of memory leaves a world that is cut
+pub cut_at : {A E : Type 0} (r : Result A E) (d : Deal) (conforming : List Bool) (seeds : Seeds) (roles : List Role)
+    (answers : List (Option (ℕ × Call))) (before after : Bool) (old to new : State)
+    → after ≡ is_err r → new.asked ≡ old.asked → OnErr r ((new.book ≡ old.book) ⊎ (new.book ≡ to.book))
+    → OnErr r (IsCutAt to (world d conforming seeds roles answers before old) (world d conforming seeds roles answers after new))
+cut_at (Ok x) d conforming seeds roles answers before after old to new is asked book = tt
+cut_at (Err x) d conforming seeds roles answers before after old to new is asked book =
+    record { stopped = is; cast = refl; asked = asked; answers = refl; book = book }
+
 -- What is known of a party that follows a script or a strategy.
 module _ (d : Deal) (conforming : List Bool) (seeds : List (Option (List ℕ))) (roles : List Role) (qs : List Question) (ls : List LedgerState) (xs : List Actor)
     (ready : IsReadyCast (c d conforming seeds roles qs ls xs)) (good : IsGood (c d conforming seeds roles qs ls xs) (s d conforming seeds roles qs ls xs))
@@ -261,19 +251,19 @@ module _ (d : Deal) (conforming : List Bool) (seeds : List (Option (List ℕ))) 
 -- What is known of a conforming party.
 module _ (d : Deal) (conforming : List Bool) (seeds : List (Option (List ℕ))) (roles : List Role) (qs : List Question) (ls : List LedgerState) (xs : List Actor)
     (ready : IsReadyCast (c d conforming seeds roles qs ls xs)) (good : IsGood (c d conforming seeds roles qs ls xs) (s d conforming seeds roles qs ls xs))
-    (p : ℕ) (below : p < d.graph.n) (m : MachineState) (i : IsAt d conforming seeds roles qs ls xs p m) where
+    (p : ℕ) (below : p < d.graph.n) (m : MachineState) (j : JournalState DiskState) (i : IsAt d conforming seeds roles qs ls xs p m j) where
   -- what the machine knows is the beginning of each history
   pub begins : (a : ℕ) → Begins (history m.known a) (history (histories ls) a)
   begins a =
       let k = (good.notes p below i.is.0).knows a in
-      subst (λ n. Begins (history n.known a) (history (histories ls) a)) (notes_at d conforming seeds roles qs ls xs p m i) (k.rest, k.whole)
+      subst (λ n. Begins (history n.known a) (history (histories ls) a)) (notes_at d conforming seeds roles qs ls xs p m j i) (k.rest, k.whole)
 
   -- its next call fits
   pub makable : (x : Action) → next_due m ≡ Some x → IsMakable m.deal m.me x
   makable x e =
       let cast = c d conforming seeds roles qs ls xs in
       let before = s d conforming seeds roles qs ls xs in
-      let next : next_action cast before p ≡ Some x = next_is d conforming seeds roles qs ls xs p m i ∙ e in
+      let next : next_action cast before p ≡ Some x = next_is d conforming seeds roles qs ls xs p m j i ∙ e in
       let is =
       due_now d before.book (state_notes before p) p (cast.wallet p) x (ready.wallets p below i.is.0) ready.accepted
       (first_in (due d p (cast.wallet p) (signed_hashkey (state_notes before p).signed) (state_notes before p).known) x next)

@@ -1,5 +1,5 @@
--- What the act of a machine makes of the histories and of the machine, and a call of the others of
--- theirs, where slots may be swept.
+-- What an act of a machine, or a call of another party, makes of the histories and of what the
+-- party knows, where slots may be swept.
 use Rattle.std.specs.Prelude.{◌≡◌, ◌==◌, ◌||◌, ◌<◌, ℕ, ◌+◌, Bool, true, IsTrue, List, length, map, slice_set, Option, Some, None, if◌then◌else◌}
 use Rattle.swap_digraph.specs.declared.deal.Deal.{Deal}
 use Rattle.swap_digraph.specs.Deal.{party, counterparty}
@@ -26,7 +26,7 @@ pub record IsMakable (d : Deal) (v : ℕ) (x : Action) : Type 0 where
   pub fits : IsTrue (fit d x.arc x.call)
   pub valid : presents_valid d x.arc x.call ≡ true
 
--- Both machines are of one party and one deal, with one seed.
+-- Both machines have the same party, deal and seed.
 pub record IsSameOwner (old new : MachineState) : Type 0 where
   pub deal : new.deal ≡ old.deal
   pub me : new.me ≡ old.me
@@ -76,7 +76,7 @@ abbrev pub party_told : (ℕ → Bool) → Deal → ℕ → Option (ℕ × Call)
 party_told swept d v None b = Nothing
 party_told swept d v (Some x) b = call_told (swept x.0) d x.0 v x.1 (history b x.0)
 
--- the plan of a party after a turn in which it asked its strategy
+-- the plan of a party after it asked its strategy
 abbrev pub asked_once : Plan → Plan
 asked_once n = record n { turns = n.turns + 1 }
 
@@ -84,7 +84,7 @@ asked_once n = record n { turns = n.turns + 1 }
 abbrev pub answer_question : List ℕ → ℕ → Plan → Question
 answer_question name v n = record { strategy = name; party = v; turn = n.turns; known = n.known }
 
--- the plan of a party after a turn by its script
+-- the plan of a party after it took the next call of its script
 abbrev pub turned : Plan → Plan
 turned n = record n { moves = moves_left n.known n.moves; turns = n.turns + 1 }
 

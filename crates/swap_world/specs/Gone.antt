@@ -1,5 +1,5 @@
--- The state that a world reaches, and what strategies are asked and answer on the way.
-use Rattle.std.specs.Prelude.{◌≡◌, ℕ, ◌++◌, ◌⊎◌, List, map, Option}
+-- What a world comes to, and what strategies are asked and answer on the way.
+use Rattle.std.specs.Prelude.{◌≡◌, ℕ, ◌++◌, ◌⊎◌, true, List, map, Option}
 use Rattle.std.specs.List.{All}
 use Rattle.swap_digraph.specs.declared.deal.Deal.{Deal}
 use Rattle.ledger_core.specs.declared.entry.Call.{Call}
@@ -22,7 +22,7 @@ pub record Answered : Type 0 where
 abbrev pub MayBeGiven : MayGive → Deal → Answered → Type 0
 MayBeGiven gives d x = gives x.question.strategy d x.question.party x.question.turn x.question.known x.answer
 
--- From old to new, strategies were asked some more, and each answer is one that may come.
+-- From old to new, strategies were asked some questions, and each answer is one that may come.
 pub record HasAsked (gives : MayGive) (old new : WorldState) : Type 0 where
   pub more : List Answered
   pub questions : new.state.asked ≡ old.state.asked ++ map (λ x. x.question) more
@@ -35,6 +35,15 @@ pub record HasGone (gives : MayGive) (f : Cast → State → State) (old new : W
   pub asked : HasAsked gives old new
   pub same : new ≡ record old { answers = new.answers; state = new.state }
   pub state : (g : Answers) → Continues new g → new.state ≡ f (answering_cast old g) old.state
+
+-- Memory ran out on the way to that state, and nobody was asked. The histories are those before it
+-- or its own, and every later step wants memory too.
+pub record IsCutAt (after : State) (old new : WorldState) : Type 0 where
+  pub stopped : new.stopped ≡ true
+  pub cast : world_cast new ≡ world_cast old
+  pub asked : new.state.asked ≡ old.state.asked
+  pub answers : new.answers ≡ old.answers
+  pub book : (new.state.book ≡ old.state.book) ⊎ (new.state.book ≡ after.book)
 
 -- Memory ran out on the way to where f leads: the histories are those before it or after it.
 pub record IsCutMidway (gives : MayGive) (f : Cast → State → State) (old new : WorldState) : Type 0 where

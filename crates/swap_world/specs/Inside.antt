@@ -10,19 +10,19 @@ use Rattle.swap_run.specs.Run.{Cast, Notes, Plan, Question, State, no_notes, fir
 use Rattle.swap_run.specs.Laws.{IsReadyCast, IsGood, IsKept}
 use Rattle.swap_world.specs.Cast.{made_cast}
 use Rattle.swap_world.specs.Acting.{answer_question}
-use Rattle.swap_world.specs.Journals.{AreMachineDisks, AreMachineJournals}
+use Rattle.swap_world.specs.Journals.{AreJournaled, HaveDisks}
 use Rattle.swap_world.specs.Value.{WorldState}
-use Rattle.swap_world.specs.declared.actor.Actor.{Actor}
-use Rattle.swap_world.specs.declared.actor.Actor.TheVariants.{Conforming, Planned, Manual}
+use Rattle.swap_world.specs.declared.player.Player.{Player}
+use Rattle.swap_world.specs.declared.player.Player.TheVariants.{Conforming, Planned, Manual}
 use Rattle.swap_world.specs.declared.world.World.TheInside.{Inside}
 
 -- what the party has noted, where it conforms
-abbrev pub actor_notes : Deal → Actor → Notes
-actor_notes d (Conforming m) = record { known = m.known; signed = m.signed }
+abbrev pub actor_notes : {J : Type 0} → Deal → Player J → Notes
+actor_notes d (Conforming m j) = record { known = m.known; signed = m.signed }
 actor_notes d _ = no_notes d
 
 -- what the party plans, where it follows a script or a strategy
-abbrev pub actor_plan : Deal → Actor → Plan
+abbrev pub actor_plan : {J : Type 0} → Deal → Player J → Plan
 actor_plan d (Planned n) = n
 actor_plan d _ = first_plan d kinds.Manual
 
@@ -82,7 +82,7 @@ pub record IsNewLedger (d : Deal) (a : ℕ) (l : LedgerState) : Type 0 where
   pub history : l.history ≡ []
   pub room : 0 < l.spare
 
--- There is one for each of the first n arcs, in order.
+-- There is a new ledger for each of the first n arcs, in order.
 pub record AreNewLedgers (d : Deal) (n : ℕ) (ls : List LedgerState) : Type 0 where
   pub one_each : length ls ≡ n
   pub each : (a : ℕ) (l : LedgerState) → a < length ls → l ≡ slice_index_or ls a l → IsNewLedger d a l
@@ -96,17 +96,17 @@ pub record AreArcLedgers (d : Deal) (ls : List LedgerState) : Type 0 where
   pub one_each : length ls ≡ length d.graph.arcs
   pub each : (a : ℕ) (l : LedgerState) → a < length ls → l ≡ slice_index_or ls a l → IsArcLedger d a l
 
--- The actor is the one of party v of the deal. The party conforms or not, as `conforms` tells, and
+-- The player is the one of party v of the deal. The party conforms or not, as `conforms` tells, and
 -- has this seed and this role.
-abbrev pub IsPartyActor : Deal → Bool → Option (List ℕ) → Role → ℕ → Actor → Type 0
-IsPartyActor d conforms seed role v (Conforming m) = (conforms ≡ true) × (m.deal ≡ d) × (m.me ≡ v) × (seed ≡ Some m.seed)
+abbrev pub IsPartyActor : {J : Type 0} → Deal → Bool → Option (List ℕ) → Role → ℕ → Player J → Type 0
+IsPartyActor d conforms seed role v (Conforming m j) = (conforms ≡ true) × (m.deal ≡ d) × (m.me ≡ v) × (seed ≡ Some m.seed)
 IsPartyActor d conforms seed role v (Planned n) = (conforms ≡ false) × (is_planned role ≡ true)
 IsPartyActor d conforms seed role v Manual = (conforms ≡ false) × (is_planned role ≡ false)
 
--- There is one actor per party, in order.
-pub record ArePartyActors (d : Deal) (conforming : List Bool) (seeds : List (Option (List ℕ))) (roles : List Role) (xs : List Actor) : Type 0 where
+-- There is one player per party, in order.
+pub record ArePartyActors {J : Type 0} (d : Deal) (conforming : List Bool) (seeds : List (Option (List ℕ))) (roles : List Role) (xs : List (Player J)) : Type 0 where
   pub one_each : length xs ≡ d.graph.n
-  pub each : (v : ℕ) (x : Actor) → v < length xs → x ≡ slice_index_or xs v x
+  pub each : (v : ℕ) (x : Player J) → v < length xs → x ≡ slice_index_or xs v x
       → IsPartyActor d (slice_index_or conforming v false) (slice_index_or seeds v None) (slice_index_or roles v kinds.Manual) v x
 
 pub record WorldHolds (w : Inside) : Type 0 where
@@ -117,7 +117,7 @@ pub record WorldHolds (w : Inside) : Type 0 where
   pub told : length w.told.items ≡ length w.answers.items
   pub good : w.stopped ≡ false → IsGood (inside_cast w) (inside_run_state w)
   pub room : w.stopped ≡ false → HaveRoom w.ledgers.items
-  pub journals : w.stopped ≡ false → AreMachineJournals w.deal w.actors.items w.journals.items
-  pub disks : w.stopped ≡ true → AreMachineDisks w.deal (inside_run_state w).book w.actors.items w.journals.items
+  pub journals : w.stopped ≡ false → AreJournaled w.deal w.actors.items
+  pub disks : w.stopped ≡ true → HaveDisks w.deal (inside_run_state w).book w.actors.items
   -- also where memory ran out
   pub kept : IsKept (inside_cast w) (inside_run_state w).book

@@ -1,5 +1,5 @@
 -- The journals of the conforming parties of a world, on disks in memory.
-use Rattle.std.specs.Prelude.{◌≡◌, ◌⊎◌, ◌<◌, ℕ, Bool, true, false, List, [], length, replicate, slice_index_or, Option, Some, None, if◌then◌else◌}
+use Rattle.std.specs.Prelude.{◌≡◌, ◌⊎◌, ◌<◌, ℕ, true, List, [], length, replicate, slice_index_or, Option, Some, None, if◌then◌else◌}
 use Rattle.swap_digraph.specs.declared.deal.Deal.{Deal}
 use Rattle.hashkey_path.specs.declared.hashkey.Hashkey.{Hashkey}
 use Rattle.ledger_core.specs.declared.entry.Entry.{Entry}
@@ -9,14 +9,13 @@ use Rattle.ledger_core.specs.declared.entry.Call.TheVariants.{Unlock}
 use Rattle.swap_base.specs.Lists.{IsMoment}
 use Rattle.swap_rules.specs.Party.{pick_call}
 use Rattle.party_wallet.specs.Value.{signed_hashkey}
-use Rattle.wallet_journal.specs.Held.{Held, Leaves}
+use Rattle.wallet_journal.specs.Held.{Held, Leaves, visible_bytes}
 use Rattle.wallet_journal.specs.Layout.{recorded}
-use Rattle.party_machine.specs.Machine.{MachineState}
 use Rattle.wallet_journal.specs.Journal.{JournalState}
 use Rattle.wallet_journal.specs.Memory.{DiskState}
 use Rattle.wallet_journal.specs.Stopped.{IsOwnDisk, ShowsAll}
-use Rattle.swap_world.specs.declared.actor.Actor.{Actor}
-use Rattle.swap_world.specs.declared.actor.Actor.TheVariants.{Conforming}
+use Rattle.swap_world.specs.Players.{Actor}
+use Rattle.swap_world.specs.declared.player.Player.TheVariants.{Conforming}
 
 -- The journal of party v and its deal has just the signed hashkeys, and so has each device that a
 -- crash leaves. No call fails on its disk.
@@ -26,17 +25,18 @@ pub record IsMachineJournal (d : Deal) (v : ℕ) (signed : List (Option Hashkey)
   pub sound : j.sound ≡ true
   pub has : j.signed ≡ signed
   pub own : IsOwnDisk d v j.disk
+  -- what a read gives is among what a crash may leave
+  pub read : Leaves j.disk.held (visible_bytes j.disk.held)
   pub shows : ShowsAll j.signed j.disk.held
 
-abbrev pub IsSomeJournal : Deal → ℕ → List (Option Hashkey) → Option (JournalState DiskState) → Type 0
-IsSomeJournal d v signed None = ⊥
-IsSomeJournal d v signed (Some j) = IsMachineJournal d v signed j
+-- the machine of party v has its journal
+abbrev pub IsJournaled : Deal → ℕ → Actor → Type 0
+IsJournaled d v (Conforming m j) = IsMachineJournal d v m.signed j
+IsJournaled d v _ = Unit {0}
 
--- Each machine has its journal.
-pub record AreMachineJournals (d : Deal) (xs : List Actor) (js : List (Option (JournalState DiskState))) : Type 0 where
-  pub one_each : length js ≡ length xs
-  pub each : (v : ℕ) (m : MachineState) (o : Option (JournalState DiskState)) → v < length xs → Conforming m ≡ slice_index_or xs v (Conforming m)
-      → o ≡ slice_index_or js v o → IsSomeJournal d v m.signed o
+-- each machine has its journal
+abbrev pub AreJournaled : Deal → List Actor → Type 0
+AreJournaled d xs = (v : ℕ) (x : Actor) → v < length xs → x ≡ slice_index_or xs v x → IsJournaled d v x
 
 -- Each device that a crash leaves has for each lock the hashkey that was signed before, or the one
 -- signed by the act. What was signed before stays signed.
@@ -53,26 +53,19 @@ pub record IsMachineDisk (d : Deal) (v : ℕ) (b : Histories) (signed : List (Op
   pub calls : (a : ℕ) (past : List Entry) (e : Entry) (key : Hashkey) → IsMoment (history b a) past e → pick_call v e ≡ Some (Unlock key)
       → (c : List ℕ) → Leaves h c → recorded c key.lock ≡ Some key
 
-abbrev pub IsSomeDisk : Deal → ℕ → Histories → List (Option Hashkey) → Option (JournalState DiskState) → Type 0
-IsSomeDisk d v b signed None = ⊥
-IsSomeDisk d v b signed (Some j) = IsMachineDisk d v b signed j.disk.held
+-- the machine of party v has its disk
+abbrev pub HasMachineDisk : Deal → Histories → ℕ → Actor → Type 0
+HasMachineDisk d b v (Conforming m j) = IsMachineDisk d v b m.signed j.disk.held
+HasMachineDisk d b v _ = Unit {0}
 
--- Each machine has its disk.
-pub record AreMachineDisks (d : Deal) (b : Histories) (xs : List Actor) (js : List (Option (JournalState DiskState))) : Type 0 where
-  pub one_each : length js ≡ length xs
-  pub each : (v : ℕ) (m : MachineState) (o : Option (JournalState DiskState)) → v < length xs → Conforming m ≡ slice_index_or xs v (Conforming m)
-      → o ≡ slice_index_or js v o → IsSomeDisk d v b m.signed o
+-- each machine has its disk
+abbrev pub HaveDisks : Deal → Histories → List Actor → Type 0
+HaveDisks d b xs = (v : ℕ) (x : Actor) → v < length xs → x ≡ slice_index_or xs v x → HasMachineDisk d b v x
 
--- the journal of party v before anything is signed, where it conforms
-abbrev pub IsFirstJournal : Deal → ℕ → Bool → Option (JournalState DiskState) → Type 0
-IsFirstJournal d v true o = IsSomeJournal d v (replicate (length d.leaders) None) o
-IsFirstJournal d v false o = o ≡ None
-
--- There is one for each of the first n parties, in order.
-pub record AreFirstJournals (d : Deal) (conforming : List Bool) (n : ℕ) (js : List (Option (JournalState DiskState))) : Type 0 where
-  pub one_each : length js ≡ n
-  pub each : (v : ℕ) (o : Option (JournalState DiskState)) → v < length js → o ≡ slice_index_or js v o
-      → IsFirstJournal d v (slice_index_or conforming v false) o
+-- where it is a machine its journal is one before anything is signed
+abbrev pub HasNewJournal : Deal → Actor → Type 0
+HasNewJournal d (Conforming m j) = IsMachineJournal d m.me (replicate (length d.leaders) None) j
+HasNewJournal d _ = Unit {0}
 
 -- what v knows of arc a that has learnt its ledger, where that touches it
 abbrev pub near_known : Deal → ℕ → Histories → ℕ → List Entry

@@ -2,10 +2,12 @@ pub mod Cast
 pub mod Value
 pub mod Gone
 pub mod On
+pub mod Players
 pub mod Actors
 pub mod Stopped
 pub mod Acting
 pub mod TouchingArcs
 pub mod Journals
+pub mod Recorded
 pub mod Inside
 pub mod Quiet

@@ -23,7 +23,7 @@ is_slot_swept swept a = slice_index_or swept a false
 abbrev pub call_told : (swept : Bool) → Deal → (a p : ℕ) → Call → List Entry → Told
 call_told swept d a p c h = if is_barred swept h c then Passed else Replied (history_reply d a h p c)
 
--- what a party is told of its call, or nothing where it made none
+-- what is told of a call, if there is one
 abbrev pub told_of_call : (ℕ → Bool) → Cast → State → Option Called → Told
 told_of_call swept c s None = Nothing
 told_of_call swept c s (Some x) = call_told (swept x.arc) c.deal x.arc x.sender x.call (history s.book x.arc)

@@ -11,8 +11,8 @@ use Rattle.party_machine.specs.Machine.{MachineState}
 use Rattle.party_machine.specs.Rest.{IsAtRest}
 use Rattle.swap_run.specs.Run.{Cast, State, conforms, party_role, is_planned, state_notes}
 use Rattle.swap_run.specs.Quiet.{IsIdle}
-use Rattle.swap_world.specs.declared.actor.Actor.{Actor}
-use Rattle.swap_world.specs.declared.actor.Actor.TheVariants.{Conforming, Planned, Manual}
+use Rattle.swap_world.specs.Players.{Actor}
+use Rattle.swap_world.specs.declared.player.Player.TheVariants.{Conforming, Planned, Manual}
 
 -- A history is longer by ticks alone, which raise it by at most n heights.
 pub record IsRaised (n : ℕ) (h after : List Entry) : Type 0 where
@@ -21,7 +21,7 @@ pub record IsRaised (n : ℕ) (h after : List Entry) : Type 0 where
   pub is : after ≡ h ++ more
   pub high : height after ≤ height h + n
 
--- each history of a book is
+-- each history of a book is so raised
 abbrev pub AreRaised : ℕ → (b after : Histories) → Type 0
 AreRaised n b after = (a : ℕ) → a < length b → IsRaised n (history b a) (history after a)
 
@@ -51,7 +51,7 @@ pub record IsCalm (n : ℕ) (b : Histories) (near : List ℕ) (m : MachineState)
 
 -- what acts for a party makes no call in the next n rounds
 abbrev pub IsCalmActor : ℕ → Histories → List ℕ → Actor → Type 0
-IsCalmActor n b near (Conforming m) = IsCalm n b near m
+IsCalmActor n b near (Conforming m j) = IsCalm n b near m
 IsCalmActor n b near (Planned x) = ⊥
 IsCalmActor n b near Manual = Unit {0}
 
@@ -60,12 +60,12 @@ pub record HaveArcs (ledgers : ℕ) (d : Deal) (near : List ℕ) : Type 0 where
   pub one_each : ledgers ≡ length d.graph.arcs
   pub each : All (λ a. a < length d.graph.arcs) near
 
--- what the machine knows is of these histories
+-- what the machine knows of each arc is where its history begins
 abbrev pub HasSeen : MachineState → Histories → Type 0
 HasSeen m b = (a : ℕ) → Begins (history m.known a) (history b a)
 
--- what is asked of an actor before its rest is
+-- what has to hold of a player before its quiet rounds are counted
 abbrev pub IsReadyActor : ℕ → Histories → List ℕ → Actor → Type 0
-IsReadyActor ledgers b near (Conforming m) = HaveArcs ledgers m.deal near × HasSeen m b
+IsReadyActor ledgers b near (Conforming m j) = HaveArcs ledgers m.deal near × HasSeen m b
 IsReadyActor ledgers b near (Planned x) = Unit {0}
 IsReadyActor ledgers b near Manual = Unit {0}

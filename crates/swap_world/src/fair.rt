@@ -67,8 +67,8 @@ fn act_to_rest<A: Strategies>(
     Ok(())
 }
 
-/// A party's turn: it looks around, and then acts: until nothing is due where it conforms, else
-/// once.
+/// A party's turn: it looks around, and then acts. A conforming party acts until nothing is due,
+/// another one acts once.
 fn turn<A: Strategies>(
     world: &mut World,
     strategies: &A,
@@ -89,7 +89,7 @@ fn turn<A: Strategies>(
     world.step(strategies, &Event::Act(p))
 }
 
-/// Every party's turn, in their order.
+/// The turns of all parties, in their order.
 fn turns<A: Strategies>(
     world: &mut World,
     strategies: &A,
@@ -154,7 +154,7 @@ fn is_above_horizon(world: &World) -> bool
     true
 }
 
-/// Every party's turn, and then the ledgers tick.
+/// The turns of all parties. Then the ledgers tick.
 #[tactic(auto, unfolding(swap_run::specs::Fair::round))]
 fn round<A: Strategies>(
     world: &mut World,
@@ -171,7 +171,7 @@ fn round<A: Strategies>(
     ticks(world, strategies)
 }
 
-/// Takes this many ticks of each ledger that isn't above the horizon.
+/// Ticks each ledger that isn't above the horizon by one height, `count` times.
 fn pass<A: Strategies>(world: &mut World, strategies: &A, count: u64) -> Result<(), NoMemory>
     requires held { AreHeld (A.holds strategies.now) world.old.roles }
     ensures ok { OnOk result (HasGone (A.gives strategies.now) (λ c s. repeat count (ticks c) s) world.old world.new) }
@@ -183,8 +183,8 @@ fn pass<A: Strategies>(world: &mut World, strategies: &A, count: u64) -> Result<
     Ok(())
 }
 
-/// Some rounds, at most `most`. First come the rounds in which nobody makes a call, and only their
-/// ticks are taken. Then comes one more. It answers the number of rounds.
+/// At most `most` rounds, and answers their number. The rounds in which nobody makes a call come
+/// first, by their ticks alone. One round follows them.
 fn advance<A: Strategies>(
     world: &mut World,
     strategies: &A,
@@ -207,7 +207,7 @@ fn advance<A: Strategies>(
     Ok(quiet + 1)
 }
 
-/// Rounds until each ledger is above the horizon, for which one more than the horizon are enough.
+/// Rounds until each ledger is above the horizon. One round more than the horizon is enough.
 fn rounds<A: Strategies>(
     world: &mut World,
     strategies: &A,

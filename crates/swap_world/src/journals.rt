@@ -1,6 +1,6 @@
 //! The journals of conforming parties, and the crash of one.
 
-ghost use Rattle.std.specs.Prelude.{◌≡◌, ◌⊎◌, ◌<◌, ◌≤◌, ℕ, List, [], true, Some, None, length, replicate, slice_set, IfOk, OnOk, OnErr};
+ghost use Rattle.std.specs.Prelude.{◌≡◌, ◌⊎◌, ◌<◌, ◌≤◌, ℕ, List, [], true, Some, None, length, map, replicate, slice_set, All, IfOk, OnOk, OnErr};
 ghost use Rattle.ledger_core.specs.Book.{history};
 ghost use Rattle.swap_digraph.specs.Deal.{IsWellSized};
 ghost use Rattle.hashkey_path.specs.declared.hashkey.Hashkey.{Hashkey};
@@ -14,52 +14,56 @@ ghost use Rattle.party_machine.specs.Recording.{signs_next, MayHave};
 ghost use Rattle.swap_run.specs.Run.{recorded_hashkeys, relearnt, signed_through_call};
 ghost use Rattle.swap_world.specs.Acting.{histories, IsSameOwner};
 ghost use Rattle.swap_world.specs.Inside.{AreArcLedgers};
-ghost use Rattle.swap_world.specs.Journals.{near_known, AreFirstJournals, IsDiskDuringSigning, IsFirstJournal, IsMachineJournal};
+ghost use Rattle.swap_world.specs.Players.{without_journal};
+ghost use Rattle.swap_world.specs.Journals.{near_known, HasNewJournal, IsDiskDuringSigning, IsMachineJournal};
 
+use crate::player::{Actor, Player};
 use crate::turn::learn;
 use ledger_core::{Ledger, is_adjacent};
 use party_machine::Machine;
 use std::alloc::Global;
-use swap_base::{ArcId, NoMemory, PartyId};
+use swap_base::{ArcId, NoMemory};
 use swap_digraph::Deal;
 use wallet_journal::{Journal, MemoryDisk, RecordFault};
 
-/// The journal of a party, where it conforms.
-fn new_journal(
-    alloc: Global,
-    deal: &Deal,
-    p: PartyId,
-    conforms: bool,
-) -> Result<Option<Journal<MemoryDisk>>, NoMemory>
+/// A player with its journal, where it conforms, on a disk on which nothing was written before.
+fn with_journal(alloc: Global, deal: &Deal, player: Player<()>) -> Result<Actor, NoMemory>
     requires sized { IsWellSized deal.now }
-    ensures { IfOk result (λ o. IsFirstJournal deal.now p conforms o) }
+    ensures same { IfOk result (λ x. without_journal x ≡ player) }
+    ensures journal { IfOk result (HasNewJournal deal.now) }
 {
-    if conforms {
-        Ok(Some(Journal::in_memory(alloc, deal, p)?))
-    } else {
-        Ok(None)
+    match player {
+        Player::Conforming(machine, ()) => {
+            let journal = Journal::in_memory(alloc, deal, machine.me())?;
+            // A read of the disk gives what a crash may leave.
+            let _disk = journal.memory();
+            Ok(Player::Conforming(machine, journal))
+        }
+        Player::Planned(planner) => Ok(Player::Planned(planner)),
+        Player::Manual => Ok(Player::Manual),
     }
 }
 
-/// For each party its journal, where it conforms, on a disk on which nothing was written before.
-pub(crate) fn new_journals(
+/// The players with their journals. Each journal lies on a disk on which nothing was written
+/// before.
+pub(crate) fn with_journals(
     alloc: Global,
     deal: &Deal,
-    conforming: &[bool],
-) -> Result<Vec<Option<Journal<MemoryDisk>>>, NoMemory>
+    players: Vec<Player<()>>,
+) -> Result<Vec<Actor>, NoMemory>
     requires sized { IsWellSized deal.now }
-    requires one_each { length conforming.now ≡ deal.now.graph.n }
-    ensures { IfOk result (λ v. AreFirstJournals deal.now conforming.now deal.now.graph.n v.items) }
+    ensures same { IfOk result (λ v. map without_journal v.items ≡ players.items) }
+    ensures journals { IfOk result (λ v. All (HasNewJournal deal.now) v.items) }
 {
-    let mut journals = Vec::new(alloc);
-    'parties: for p in 0..deal.graph.n() {
-        journals.push(new_journal(alloc, deal, p, conforming[p as usize])?)?;
+    let mut actors = Vec::new(alloc);
+    'players: for player in players {
+        actors.push(with_journal(alloc, deal, player)?)?;
     }
-    Ok(journals)
+    Ok(actors)
 }
 
-/// A party begins its act on a disk that stops within the call after k of them; it comes to no call
-/// of its own.
+/// A party begins its act on a disk that stops within the call after k of them. The party makes no
+/// call.
 fn begin(machine: &mut Machine, journal: &mut Journal<MemoryDisk>, _k: u8) -> Result<(), NoMemory>
     requires few { _k ≤ 3 }
     requires locks { length machine.old.signed ≤ 8 }
@@ -111,6 +115,8 @@ fn restart(
     journal.limit_calls(k);
     begin(machine, journal, k)?;
     journal.crash(alloc, deal, image)?;
+    // A read of the disk gives what a crash may leave.
+    let _disk = journal.memory();
     machine.restart(journal)
 }
 
@@ -154,14 +160,13 @@ fn relearn(machine: &mut Machine, deal: &Deal, ledgers: &[Ledger]) -> Result<(),
     Ok(())
 }
 
-/// A party crashes within its act and restarts: it then knows each ledger that touches it to its
+/// A party crashes within its act and restarts. It then knows each ledger that touches it to its
 /// end.
 pub(crate) fn crash(
-    alloc: Global,
     machine: &mut Machine,
     journal: &mut Journal<MemoryDisk>,
     deal: &Deal,
-    ledgers: &[Ledger],
+    ledgers: &Vec<Ledger>,
     k: u8,
     image: u8,
 ) -> Result<(), NoMemory>
@@ -169,16 +174,17 @@ pub(crate) fn crash(
     requires same { machine.old.deal ≡ deal.now }
     requires few { k ≤ 3 }
     requires places { length machine.old.signed ≡ length deal.now.leaders }
-    requires ledgers { AreArcLedgers deal.now ledgers.now }
+    requires ledgers { AreArcLedgers deal.now ledgers.now.items }
     requires journal { IsMachineJournal deal.now machine.old.me machine.old.signed journal.old }
     ensures ok { OnOk result (machine.new ≡ record machine.old {
-      known = relearnt deal.now machine.old.me (histories ledgers.now);
+      known = relearnt deal.now machine.old.me (histories ledgers.now.items);
       signed = recorded_hashkeys machine.old.signed (next_due machine.old) k image;
     }) }
     ensures owner { IsSameOwner machine.old machine.new }
     ensures journal { OnOk result (IsMachineJournal deal.now machine.old.me machine.new.signed journal.new) }
     ensures between { OnErr result (IsDiskDuringSigning machine.old.signed machine.new.signed journal.new.disk.held) }
 {
+    let alloc = *ledgers.allocator();
     restart(alloc, machine, journal, deal, k, image)?;
     relearn(machine, deal, ledgers)
 }

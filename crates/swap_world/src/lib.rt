@@ -5,21 +5,21 @@
 //! run.
 #![tactic(auto)]
 
-mod actor;
-mod actors;
 mod call_outcome;
 mod chain_tick;
 mod fair;
 mod journals;
 mod many;
+mod player;
+mod players;
 mod quiet;
 mod touching_arcs;
 mod turn;
 mod world;
 
-pub use actor::Actor;
-pub use actors::{WorldFault, WrongWallet, new_actors, wrong_wallet};
 pub use call_outcome::Told;
 pub use fair::most_acts;
+pub use player::Player;
+pub use players::{WorldFault, WrongWallet, new_players, wrong_wallet};
 pub use touching_arcs::arcs_by_party;
 pub use world::World;

@@ -1,14 +1,15 @@
-//! For how many rounds nobody has anything to do.
+//! The number of rounds in which nobody has anything to do.
 
 ghost use Rattle.std.specs.Prelude.{◌≡◌, ◌<◌, ◌≤◌, ◌+◌, ℕ, length, slice_index_or};
 ghost use Rattle.ledger_core.specs.History.{height};
 ghost use Rattle.ledger_core.specs.Book.{history};
 ghost use Rattle.swap_run.specs.Fair.{adjacent_arcs};
 ghost use Rattle.swap_world.specs.Acting.{histories};
+ghost use Rattle.swap_world.specs.Players.{Actor};
 ghost use Rattle.swap_world.specs.TouchingArcs.{all_adjacent};
 ghost use Rattle.swap_world.specs.Quiet.{IsLow, AreLow, IsCalm, IsCalmActor, IsReadyActor, HasSeen, HaveArcs};
 
-use crate::actor::Actor;
+use crate::player::{Actor, Player};
 use crate::turn::fresh_ticks;
 use ledger_core::Ledger;
 use party_machine::Machine;
@@ -77,16 +78,16 @@ fn machine_rounds(ledgers: &[Ledger], machine: &Machine, near: &[ArcId], most: u
     }
 }
 
-/// Up to `most` rounds in which the actor makes no call.
+/// Up to `most` rounds in which the party makes no call.
 fn needed_rounds(ledgers: &[Ledger], actor: &Actor, near: &[ArcId], most: u64) -> u64
     requires { IsReadyActor (length ledgers.now) (histories ledgers.now) near.now actor.now }
     ensures few { result ≤ most }
     ensures calm { 0 < result → IsCalmActor result (histories ledgers.now) near.now actor.now }
 {
     match actor {
-        Actor::Conforming(machine) => machine_rounds(ledgers, machine, near, most),
-        Actor::Planned(_) => 0,
-        Actor::Manual => most,
+        Player::Conforming(machine, _) => machine_rounds(ledgers, machine, near, most),
+        Player::Planned(_) => 0,
+        Player::Manual => most,
     }
 }
 

@@ -1,5 +1,5 @@
-//! What an event does to one ledger, whose slot may be swept, and to the machine or the plan of a
-//! party beside it.
+//! What an event does to one ledger, whose slot may be swept, and to the machine or the planner of
+//! the party that looks or calls.
 
 ghost use Rattle.std.specs.Prelude.{◌≡◌, ◌==◌, ◌||◌, ◌<◌, ◌≤◌, ◌+◌, ◌-◌, ◌⊎◌, ℕ, Some, None, false, IsTrue, OnOk};
 ghost use Rattle.std.specs.Prelude.{OnErr, IfOk, IfSome, length, drop, slice_set, option_copied, option_map};
@@ -57,8 +57,8 @@ pub(crate) fn tick(ledger: &mut Ledger, k: u32) -> Result<(), NoMemory>
     ledger.reserve()
 }
 
-/// Whether a call is answered before its ledger's rows: on a swept slot a transfer, and every call
-/// where nothing was published.
+/// Whether a call never reaches its ledger. On a swept slot that is a transfer, and any call before
+/// something was published.
 fn is_barred(ledger: &Ledger, call: &Call, swept: bool) -> bool
     ensures { result ≡ is_barred swept ledger.now.history call.now }
 {
@@ -110,7 +110,7 @@ fn is_swept(swept: &[bool], arc: ArcId) -> bool
     }
 }
 
-/// The hashkey of the opening that a move names, where it came.
+/// The hashkey of the opening that a move names, where that opening took place.
 fn ledger_key_named<'l>(ledgers: &'l [Ledger], mv: &Move) -> Option<&'l Hashkey>
     requires { ForSome (opening_named mv.now) (λ x. x.0 < length ledgers.now) }
     ensures { option_copied result ≡ key_opened (histories ledgers.now) (opening_named mv.now) }
@@ -138,36 +138,42 @@ fn resolve_move(
     resolve_keyed_move(alloc, deal, seeds, mv, ledger_key_named(ledgers, mv))
 }
 
+/// A move, and the party whose call it stands for.
+#[derive(Clone, Copy)]
+pub(crate) struct PartyMove<'m> {
+    pub sender: PartyId,
+    pub mv: &'m Move,
+}
+
 /// Makes the call that a move stands for, if any, over the ledgers as they stand, and answers what
 /// its party is told.
 pub(crate) fn make(
     ledgers: &mut Vec<Ledger>,
     deal: &Deal,
     seeds: &[Option<Digest>],
-    sender: PartyId,
-    mv: &Move,
+    made: &PartyMove<'_>,
     swept: &[bool],
 ) -> Result<Told, NoMemory>
     requires sized { IsWellSized deal.now }
     requires ledgers { AreArcLedgers deal.now ledgers.old.items }
-    requires fits { IsFitting deal.now seeds.now mv.now }
-    requires near { IsTrue (is_near deal.now sender (move_arc mv.now)) }
+    requires fits { IsFitting deal.now seeds.now made.now.mv.now }
+    requires near { IsTrue (is_near deal.now made.now.sender (move_arc made.now.mv.now)) }
     requires room { HaveRoom ledgers.old.items }
     ensures ok { OnOk result (histories ledgers.new.items
-        ≡ taken (is_slot_swept swept.now) deal.now sender (resolved deal.now seeds.now (histories ledgers.old.items) mv.now) (histories ledgers.old.items)) }
+        ≡ taken (is_slot_swept swept.now) deal.now made.now.sender (resolved deal.now seeds.now (histories ledgers.old.items) made.now.mv.now) (histories ledgers.old.items)) }
     ensures told { IfOk result (λ r.
-        r ≡ party_told (is_slot_swept swept.now) deal.now sender (resolved deal.now seeds.now (histories ledgers.old.items) mv.now) (histories ledgers.old.items)) }
+        r ≡ party_told (is_slot_swept swept.now) deal.now made.now.sender (resolved deal.now seeds.now (histories ledgers.old.items) made.now.mv.now) (histories ledgers.old.items)) }
     ensures err { OnErr result ((histories ledgers.new.items ≡ histories ledgers.old.items)
         ⊎ (histories ledgers.new.items
-        ≡ taken (is_slot_swept swept.now) deal.now sender (resolved deal.now seeds.now (histories ledgers.old.items) mv.now) (histories ledgers.old.items))) }
+        ≡ taken (is_slot_swept swept.now) deal.now made.now.sender (resolved deal.now seeds.now (histories ledgers.old.items) made.now.mv.now) (histories ledgers.old.items))) }
     ensures ledgers { AreArcLedgers deal.now ledgers.new.items }
     ensures room { OnOk result (HaveRoom ledgers.new.items) }
 {
     let alloc = *ledgers.allocator();
-    match resolve_move(alloc, ledgers, deal, seeds, mv)? {
-        Some((arc, made)) => {
+    match resolve_move(alloc, ledgers, deal, seeds, made.mv)? {
+        Some((arc, due)) => {
             let is = is_swept(swept, arc);
-            call(&mut ledgers[arc as usize], sender, made, 0, is)
+            call(&mut ledgers[arc as usize], made.sender, due, 0, is)
         }
         None => Ok(Told::Nothing),
     }
@@ -189,7 +195,8 @@ fn last_run(run: Run, n: u32) -> Run
     }
 }
 
-/// The entries from `seen` on, where they are ticks after the ledger's last item, as nearly always.
+/// The entries from `seen` on, where all of them are ticks after the ledger's last call, as nearly
+/// always.
 pub(crate) fn fresh_ticks(ledger: &Ledger, seen: u32) -> Option<Run>
     requires { seen ≤ length ledger.now.history }
     ensures ticks { IfSome result (λ r. run_ticks r ≡ drop seen ledger.now.history) }
@@ -205,7 +212,7 @@ pub(crate) fn fresh_ticks(ledger: &Ledger, seen: u32) -> Option<Run>
     }
 }
 
-/// Learns the entries from `seen` on by a copy of them, whatever they are.
+/// Lets a machine know a ledger up to its end, by a copy of the entries that it doesn't know.
 fn learn_copied<L: Counted>(
     machine: &mut Machine,
     ledger: &Ledger,
@@ -224,7 +231,7 @@ fn learn_copied<L: Counted>(
     machine.learn(arc, fresh, steps)
 }
 
-/// Lets a machine know a ledger up to its end, in as many steps as there are entries that it
+/// Lets a machine know a ledger up to its end. It takes a step for each entry that the machine
 /// doesn't know.
 fn learn_entries<L: Counted>(
     machine: &mut Machine,
@@ -325,8 +332,10 @@ fn next(
 {
     match machine.next_recorded(journal) {
         Ok(answer) => {
-            // What the journal shows is what each crash leaves of its disk.
+            // What the journal shows is what each crash leaves of its disk, and a read gives what a
+            // crash may leave.
             let _disk = journal.disk();
+            let _disk = journal.memory();
             Ok(answer)
         }
         Err(_) => Err(NoMemory),
@@ -334,7 +343,7 @@ fn next(
 }
 
 /// Makes the first call that is due for a machine, if any, and answers what its party is told. A
-/// hashkey that it signs is recorded before.
+/// hashkey that the machine signs is recorded before the call is made.
 pub(crate) fn act(
     machine: &mut Machine,
     journal: &mut Journal<MemoryDisk>,
@@ -372,8 +381,8 @@ pub(crate) fn act(
     }
 }
 
-/// Lets a party that follows a script or a strategy know a ledger up to its end, by a copy of what
-/// is fresh.
+/// Lets a party that follows a script or a strategy know a ledger up to its end, by a copy of the
+/// entries that it doesn't know.
 pub(crate) fn watch(planner: &mut Planner, ledger: &Ledger, arc: ArcId) -> Result<(), NoMemory>
     requires arc { arc < length planner.old.known }
     requires begins { Begins (history planner.old.known arc) ledger.now.history }
@@ -450,32 +459,31 @@ pub(crate) fn make_by_hand(
     ledgers: &mut Vec<Ledger>,
     deal: &Deal,
     seeds: &[Option<Digest>],
-    sender: PartyId,
-    mv: &Move,
+    made: &PartyMove<'_>,
     swept: &[bool],
 ) -> Result<Told, NoMemory>
     requires sized { IsWellSized deal.now }
     requires ledgers { AreArcLedgers deal.now ledgers.old.items }
     requires known { length planner.old.known ≡ length deal.now.graph.arcs }
     requires begins { (a : ℕ) → Begins (history planner.old.known a) (history (histories ledgers.old.items) a) }
-    requires fits { IsFitting deal.now seeds.now mv.now }
-    requires near { IsTrue (is_near deal.now sender (move_arc mv.now)) }
+    requires fits { IsFitting deal.now seeds.now made.now.mv.now }
+    requires near { IsTrue (is_near deal.now made.now.sender (move_arc made.now.mv.now)) }
     requires room { HaveRoom ledgers.old.items }
     ensures ok { OnOk result (histories ledgers.new.items
-        ≡ taken (is_slot_swept swept.now) deal.now sender (resolved deal.now seeds.now (histories ledgers.old.items) mv.now) (histories ledgers.old.items)) }
+        ≡ taken (is_slot_swept swept.now) deal.now made.now.sender (resolved deal.now seeds.now (histories ledgers.old.items) made.now.mv.now) (histories ledgers.old.items)) }
     ensures told { IfOk result (λ r.
-        r ≡ party_told (is_slot_swept swept.now) deal.now sender (resolved deal.now seeds.now (histories ledgers.old.items) mv.now) (histories ledgers.old.items)) }
-    ensures knows { OnOk result (planner.new ≡ seen (is_slot_swept swept.now) deal.now sender
-        (resolved deal.now seeds.now (histories ledgers.old.items) mv.now) (histories ledgers.old.items) planner.old) }
+        r ≡ party_told (is_slot_swept swept.now) deal.now made.now.sender (resolved deal.now seeds.now (histories ledgers.old.items) made.now.mv.now) (histories ledgers.old.items)) }
+    ensures knows { OnOk result (planner.new ≡ seen (is_slot_swept swept.now) deal.now made.now.sender
+        (resolved deal.now seeds.now (histories ledgers.old.items) made.now.mv.now) (histories ledgers.old.items) planner.old) }
     ensures err { OnErr result ((histories ledgers.new.items ≡ histories ledgers.old.items)
         ⊎ (histories ledgers.new.items
-        ≡ taken (is_slot_swept swept.now) deal.now sender (resolved deal.now seeds.now (histories ledgers.old.items) mv.now) (histories ledgers.old.items))) }
+        ≡ taken (is_slot_swept swept.now) deal.now made.now.sender (resolved deal.now seeds.now (histories ledgers.old.items) made.now.mv.now) (histories ledgers.old.items))) }
     ensures ledgers { AreArcLedgers deal.now ledgers.new.items }
     ensures room { OnOk result (HaveRoom ledgers.new.items) }
 {
     let alloc = *ledgers.allocator();
-    let made = resolve_move(alloc, ledgers, deal, seeds, mv)?;
-    take(planner, ledgers, deal, sender, made, swept)
+    let due = resolve_move(alloc, ledgers, deal, seeds, made.mv)?;
+    take(planner, ledgers, deal, made.sender, due, swept)
 }
 
 /// Makes the next call of a party's script, if any, and answers what the party is told.

@@ -18,7 +18,6 @@ ghost use Rattle.swap_job.specs.Step.{CanStep, CanTick, CanLook, CanCall, CanCra
 ghost use Rattle.swap_rules.specs.Accepted.{IsAccepted};
 ghost use Rattle.swap_rules.specs.Outcome.{IsEnded};
 ghost use Rattle.swap_rules.specs.Laws.{IsDealt};
-ghost use Rattle.swap_run.specs.Asked.{is_strategy};
 ghost use Rattle.swap_run.specs.Run.{conforms, is_planned, state_notes, party_role, start, step, continued_run};
 ghost use Rattle.swap_run.specs.Called.{apply_step};
 ghost use Rattle.swap_run.specs.Asked.{Answers};
@@ -31,15 +30,17 @@ ghost use Rattle.swap_world.specs.Cast.{asks};
 ghost use Rattle.swap_world.specs.Value.{world_cast, answering_cast, new_world, Continues};
 ghost use Rattle.swap_world.specs.TouchingArcs.{all_adjacent};
 ghost use Rattle.swap_world.specs.Quiet.{IsQuietState};
-ghost use Rattle.swap_world.specs.Gone.{HasGone, IsCutInEvent};
+ghost use Rattle.swap_world.specs.Gone.{HasGone, IsCutAt, IsCutInEvent};
+ghost use Rattle.swap_world.specs.Recorded.{AreRecorded};
 ghost use Rattle.swap_world.specs.On.{is_slot_swept, event_told, tick_arcs, IsCutWithSweeps};
 ghost use Rattle.swap_world.specs.Actors.{AllFit, AreHeld, HaveRoles, ConformingHaveSeeds, IsFirstWrongFault};
 ghost use Rattle.swap_world.specs.Inside.{AreNewLedgers};
 
-use crate::actor::Actor;
-use crate::actors::{WorldFault, new_actors, wrong_wallet};
 use crate::call_outcome::Told;
-use crate::journals::new_journals;
+use crate::journals::with_journals;
+use crate::player::{Actor, Player};
+use crate::players::{WorldFault, new_players, wrong_wallet};
+use crate::turn::PartyMove;
 use crate::{chain_tick, fair, journals, many, quiet, turn};
 use deviators::Strategies;
 use ledger_core::{Accounts, Book, Call, EntryList, Ledger, share_deal};
@@ -50,7 +51,7 @@ use swap_base::{ArcId, Digest, Fault, GhostList, Listed, NoMemory, PartyId, TryC
 use swap_digraph::{Deal, copy_deal};
 use swap_job::{Event, Job, Move, Role};
 use swap_run::Planner;
-use wallet_journal::{Journal, MemoryDisk};
+use wallet_journal::MemoryDisk;
 
 /// The ledgers of a job, and what acts for its parties.
 #[derive(Drop)]
@@ -62,11 +63,9 @@ pub struct World {
     roles: Listed<Role>,
     ledgers: Vec<Ledger>,
     actors: Vec<Actor>,
-    /// The journal of each party that conforms.
-    journals: Vec<Option<Journal<MemoryDisk>>>,
     /// Who asked a strategy, one after another.
     askers: GhostList<PartyId>,
-    /// What each of them planned then.
+    /// What each of them planned when it asked.
     told: GhostList<Planner>,
     /// What was answered to each.
     answers: GhostList<Option<(ArcId, Call)>>,
@@ -134,15 +133,14 @@ impl World {
         requires fit { AllFit job.now }
         ensures { IfOk result (λ w. w ≡ new_world job.now) }
     {
-        let actors = new_actors(alloc, job, wallets)?;
+        let players = new_players(alloc, job, wallets)?;
         Ok(World {
             conforming: Listed::new(Vec::from_slice(alloc, job.conforming.as_slice())?),
             seeds: job.seeds.copy()?,
             roles: job.roles.copy()?,
             ledgers: make_ledgers(alloc, &job.deal)?,
-            journals: new_journals(alloc, &job.deal, job.conforming.as_slice())?,
+            actors: with_journals(alloc, &job.deal, players)?,
             deal: copy_deal(&job.deal)?,
-            actors,
             askers: GhostList::new(),
             told: GhostList::new(),
             answers: GhostList::new(),
@@ -171,31 +169,12 @@ impl World {
         requires event { CanTick self.old.deal arc k }
         requires goes_on { self.old.stopped ≡ false }
         ensures ok { OnOk result (self.new ≡ record self.old { state = step (world_cast self.old) self.old.state (Event.Tick arc k) }) }
-        ensures cast { OnErr result (world_cast self.new ≡ world_cast self.old) }
-        ensures asked { OnErr result (self.new.state.asked ≡ self.old.state.asked) }
-        ensures answers { OnErr result (self.new.answers ≡ self.old.answers) }
-        ensures book { OnErr result ((self.new.state.book ≡ self.old.state.book)
-            ⊎ (self.new.state.book ≡ (step (world_cast self.old) self.old.state (Event.Tick arc k)).book)) }
+        ensures cut { OnErr result (IsCutAt (step (world_cast self.old) self.old.state (Event.Tick arc k)) self.old self.new) }
     {
         let ledger = &mut self.ledgers[arc as usize];
         let done = turn::tick(ledger, k);
         self.stopped = done.is_err();
         done
-    }
-
-    /// Lets a party look that doesn't conform: one that follows a script or a strategy knows the
-    /// ledger up to its end.
-    fn watch(&mut self, p: PartyId, arc: ArcId) -> Result<(), NoMemory>
-        requires event { CanLook self.old.deal p arc }
-        requires deviates { conforms (world_cast self.old) p ≡ false }
-        requires goes_on { self.old.stopped ≡ false }
-        ensures ok { OnOk result (self.new ≡ record self.old { state = step (world_cast self.old) self.old.state (Event.Look p arc) }) }
-        ensures err { OnErr result (self.new ≡ self.old) }
-    {
-        let Actor::Planned(planner) = &mut self.actors[p as usize] else {
-            return Ok(());
-        };
-        turn::watch(planner, &self.ledgers[arc as usize], arc)
     }
 
     fn look(&mut self, p: PartyId, arc: ArcId) -> Result<(), NoMemory>
@@ -204,10 +183,7 @@ impl World {
         ensures ok { OnOk result (self.new ≡ record self.old { state = step (world_cast self.old) self.old.state (Event.Look p arc) }) }
         ensures err { OnErr result (self.new ≡ self.old) }
     {
-        let Actor::Conforming(machine) = &mut self.actors[p as usize] else {
-            return self.watch(p, arc);
-        };
-        turn::learn(machine, &self.ledgers[arc as usize])
+        self.actors[p as usize].learn(&self.ledgers[arc as usize])
     }
 
     /// Whether a party conforms.
@@ -216,76 +192,6 @@ impl World {
         ensures { result ≡ conforms (world_cast self.now) p }
     {
         self.conforming.as_slice()[p as usize]
-    }
-
-    /// Lets a conforming party act, and answers what it is told.
-    fn act_due(&mut self, p: PartyId, swept: &[bool]) -> Result<Told, NoMemory>
-        requires party { p < self.old.deal.graph.n }
-        requires conforms { conforms (world_cast self.old) p ≡ true }
-        requires goes_on { self.old.stopped ≡ false }
-        ensures ok { OnOk result (self.new
-            ≡ record self.old { state = apply_step (is_slot_swept swept.now) (world_cast self.old) self.old.state (Event.Act p) }) }
-        ensures told { IfOk result (λ r. r ≡ event_told (is_slot_swept swept.now) (world_cast self.old) self.old.state (Event.Act p)) }
-        ensures stopped { OnErr result (self.new.stopped ≡ true) }
-        ensures cast { OnErr result (world_cast self.new ≡ world_cast self.old) }
-        ensures asked { OnErr result (self.new.state.asked ≡ self.old.state.asked) }
-        ensures answers { OnErr result (self.new.answers ≡ self.old.answers) }
-        ensures book { OnErr result ((self.new.state.book ≡ self.old.state.book)
-            ⊎ (self.new.state.book ≡ (apply_step (is_slot_swept swept.now) (world_cast self.old) self.old.state (Event.Act p)).book)) }
-    {
-        let Actor::Conforming(machine) = &mut self.actors[p as usize] else {
-            unreachable!();
-        };
-        let Some(journal) = &mut self.journals[p as usize] else {
-            unreachable!();
-        };
-        let done = turn::act(machine, journal, &mut self.ledgers, swept);
-        self.stopped = done.is_err();
-        done
-    }
-
-    /// Lets a conforming party act on ledgers without swept slots. It answers whether the party may
-    /// have more to do; after `false` the act changed nothing.
-    pub(crate) fn act_if_due(&mut self, p: PartyId) -> Result<bool, NoMemory>
-        requires party { p < self.old.deal.graph.n }
-        requires conforms { conforms (world_cast self.old) p ≡ true }
-        requires goes_on { self.old.stopped ≡ false }
-        ensures ok { OnOk result (self.new ≡ record self.old { state = step (world_cast self.old) self.old.state (Event.Act p) }) }
-        ensures idle { IfOk result (λ made. made ≡ false → step (world_cast self.old) self.old.state (Event.Act p) ≡ self.old.state) }
-        ensures stopped { OnErr result (self.new.stopped ≡ true) }
-        ensures cast { OnErr result (world_cast self.new ≡ world_cast self.old) }
-        ensures asked { OnErr result (self.new.state.asked ≡ self.old.state.asked) }
-        ensures answers { OnErr result (self.new.answers ≡ self.old.answers) }
-        ensures book { OnErr result ((self.new.state.book ≡ self.old.state.book)
-            ⊎ (self.new.state.book ≡ (step (world_cast self.old) self.old.state (Event.Act p)).book)) }
-    {
-        match self.act_due(p, &[]) {
-            Ok(Told::Nothing) => Ok(false),
-            Ok(_) => Ok(true),
-            Err(NoMemory) => Err(NoMemory),
-        }
-    }
-
-    /// Whether a party follows a strategy.
-    fn has_strategy(&self, p: PartyId) -> bool
-        requires { p < self.now.deal.graph.n }
-        ensures { result ≡ is_strategy (party_role (world_cast self.now) p) }
-    {
-        match &self.roles.as_slice()[p as usize] {
-            Role::Strategy(_) => true,
-            _ => false,
-        }
-    }
-
-    /// Whether a party asks a strategy when it acts.
-    fn asks(&self, p: PartyId) -> bool
-        requires { p < self.now.deal.graph.n }
-        ensures { result ≡ asks (world_cast self.now) p }
-    {
-        if self.conforms(p) {
-            return false;
-        }
-        self.has_strategy(p)
     }
 
     /// Lets a party act that neither conforms nor follows a strategy: one that follows a script
@@ -298,14 +204,9 @@ impl World {
         ensures ok { OnOk result (self.new
             ≡ record self.old { state = apply_step (is_slot_swept swept.now) (world_cast self.old) self.old.state (Event.Act p) }) }
         ensures told { IfOk result (λ r. r ≡ event_told (is_slot_swept swept.now) (world_cast self.old) self.old.state (Event.Act p)) }
-        ensures stopped { OnErr result (self.new.stopped ≡ true) }
-        ensures cast { OnErr result (world_cast self.new ≡ world_cast self.old) }
-        ensures asked { OnErr result (self.new.state.asked ≡ self.old.state.asked) }
-        ensures answers { OnErr result (self.new.answers ≡ self.old.answers) }
-        ensures book { OnErr result ((self.new.state.book ≡ self.old.state.book)
-            ⊎ (self.new.state.book ≡ (apply_step (is_slot_swept swept.now) (world_cast self.old) self.old.state (Event.Act p)).book)) }
+        ensures cut { OnErr result (IsCutAt (apply_step (is_slot_swept swept.now) (world_cast self.old) self.old.state (Event.Act p)) self.old self.new) }
     {
-        let Actor::Planned(planner) = &mut self.actors[p as usize] else {
+        let Player::Planned(planner) = &mut self.actors[p as usize] else {
             return Ok(Told::Nothing);
         };
         let done = turn::follow(
@@ -320,7 +221,7 @@ impl World {
         done
     }
 
-    /// Lets a party act that asks no strategy.
+    /// Lets a party act that asks no strategy: one that conforms makes the first call that is due.
     fn act_alone(&mut self, p: PartyId, swept: &[bool]) -> Result<Told, NoMemory>
         requires party { p < self.old.deal.graph.n }
         requires alone { asks (world_cast self.old) p ≡ false }
@@ -328,52 +229,34 @@ impl World {
         ensures ok { OnOk result (self.new
             ≡ record self.old { state = apply_step (is_slot_swept swept.now) (world_cast self.old) self.old.state (Event.Act p) }) }
         ensures told { IfOk result (λ r. r ≡ event_told (is_slot_swept swept.now) (world_cast self.old) self.old.state (Event.Act p)) }
-        ensures cast { OnErr result (world_cast self.new ≡ world_cast self.old) }
-        ensures asked { OnErr result (self.new.state.asked ≡ self.old.state.asked) }
-        ensures answers { OnErr result (self.new.answers ≡ self.old.answers) }
-        ensures book { OnErr result ((self.new.state.book ≡ self.old.state.book)
-            ⊎ (self.new.state.book ≡ (apply_step (is_slot_swept swept.now) (world_cast self.old) self.old.state (Event.Act p)).book)) }
+        ensures cut { OnErr result (IsCutAt (apply_step (is_slot_swept swept.now) (world_cast self.old) self.old.state (Event.Act p)) self.old self.new) }
     {
-        if !self.conforms(p) {
+        let Player::Conforming(machine, journal) = &mut self.actors[p as usize] else {
             return self.follow(p, swept);
-        }
-        self.act_due(p, swept)
-    }
-
-    /// Lets a party act that follows a strategy: it asks, and makes the call that is answered.
-    fn ask<A: Strategies>(
-        &mut self,
-        strategies: &A,
-        p: PartyId,
-        swept: &[bool],
-    ) -> Result<Told, NoMemory>
-        requires party { p < self.old.deal.graph.n }
-        requires asks { asks (world_cast self.old) p ≡ true }
-        requires goes_on { self.old.stopped ≡ false }
-        requires held { AreHeld (A.holds strategies.now) self.old.roles }
-        ensures ok { OnOk result (HasGone (A.gives strategies.now) (λ c s. apply_step (is_slot_swept swept.now) c s (Event.Act p)) self.old self.new) }
-        ensures told { IfOk result (λ r. (g : Answers) → Continues self.new g
-            → r ≡ event_told (is_slot_swept swept.now) (answering_cast self.old g) self.old.state (Event.Act p)) }
-        ensures cut { OnErr result (IsCutWithSweeps (A.gives strategies.now) (is_slot_swept swept.now) (Event.Act p) self.old self.new) }
-    {
-        let Role::Strategy(name) = &self.roles.as_slice()[p as usize] else {
-            unreachable!();
         };
-        let Actor::Planned(planner) = &mut self.actors[p as usize] else {
-            unreachable!();
-        };
-        let askers = self.askers.and(&p);
-        let told = self.told.and(planner);
-        let answer = planner.ask(strategies, name, &self.deal, p)?;
-        self.askers = askers;
-        self.told = told;
-        self.answers = self.answers.and(&answer);
-        let done = turn::take(planner, &mut self.ledgers, &self.deal, p, answer, swept);
+        let done = turn::act(machine, journal, &mut self.ledgers, swept);
         self.stopped = done.is_err();
         done
     }
 
-    /// Lets a party act.
+    /// Lets a conforming party act on ledgers without swept slots. It answers whether the party may
+    /// have more to do; after `false` the act changed nothing.
+    pub(crate) fn act_if_due(&mut self, p: PartyId) -> Result<bool, NoMemory>
+        requires party { p < self.old.deal.graph.n }
+        requires conforms { conforms (world_cast self.old) p ≡ true }
+        requires goes_on { self.old.stopped ≡ false }
+        ensures ok { OnOk result (self.new ≡ record self.old { state = step (world_cast self.old) self.old.state (Event.Act p) }) }
+        ensures idle { IfOk result (λ made. made ≡ false → step (world_cast self.old) self.old.state (Event.Act p) ≡ self.old.state) }
+        ensures cut { OnErr result (IsCutAt (step (world_cast self.old) self.old.state (Event.Act p)) self.old self.new) }
+    {
+        match self.act_alone(p, &[]) {
+            Ok(Told::Nothing) => Ok(false),
+            Ok(_) => Ok(true),
+            Err(NoMemory) => Err(NoMemory),
+        }
+    }
+
+    /// Lets a party act. One that follows a strategy asks it, and makes the call that is answered.
     fn act<A: Strategies>(
         &mut self,
         strategies: &A,
@@ -388,13 +271,24 @@ impl World {
             → r ≡ event_told (is_slot_swept swept.now) (answering_cast self.old g) self.old.state (Event.Act p)) }
         ensures cut { OnErr result (IsCutWithSweeps (A.gives strategies.now) (is_slot_swept swept.now) (Event.Act p) self.old self.new) }
     {
-        if self.asks(p) {
-            return self.ask(strategies, p, swept);
-        }
-        self.act_alone(p, swept)
+        let Role::Strategy(name) = &self.roles.as_slice()[p as usize] else {
+            return self.act_alone(p, swept);
+        };
+        let Player::Planned(planner) = &mut self.actors[p as usize] else {
+            return self.act_alone(p, swept);
+        };
+        let askers = self.askers.and(&p);
+        let told = self.told.and(planner);
+        let answer = planner.ask(strategies, name, &self.deal, p)?;
+        self.askers = askers;
+        self.told = told;
+        self.answers = self.answers.and(&answer);
+        let done = turn::take(planner, &mut self.ledgers, &self.deal, p, answer, swept);
+        self.stopped = done.is_err();
+        done
     }
 
-    /// Makes the move of a party that follows neither a script nor a strategy.
+    /// Makes the call of a move, whose sender follows neither a script nor a strategy.
     fn make_plain(&mut self, sender: PartyId, mv: &Move, swept: &[bool]) -> Result<Told, NoMemory>
         requires event { CanCall self.old.deal self.old.conforming self.old.seeds sender mv.now }
         requires plain { is_planned (party_role (world_cast self.old) sender) ≡ false }
@@ -402,18 +296,14 @@ impl World {
         ensures ok { OnOk result (self.new
             ≡ record self.old { state = apply_step (is_slot_swept swept.now) (world_cast self.old) self.old.state (Event.Call sender mv.now) }) }
         ensures told { IfOk result (λ r. r ≡ event_told (is_slot_swept swept.now) (world_cast self.old) self.old.state (Event.Call sender mv.now)) }
-        ensures cast { OnErr result (world_cast self.new ≡ world_cast self.old) }
-        ensures asked { OnErr result (self.new.state.asked ≡ self.old.state.asked) }
-        ensures answers { OnErr result (self.new.answers ≡ self.old.answers) }
-        ensures book { OnErr result ((self.new.state.book ≡ self.old.state.book)
-            ⊎ (self.new.state.book ≡ (apply_step (is_slot_swept swept.now) (world_cast self.old) self.old.state (Event.Call sender mv.now)).book)) }
+        ensures cut { OnErr result (IsCutAt (apply_step (is_slot_swept swept.now) (world_cast self.old) self.old.state (Event.Call sender mv.now)) self.old self.new) }
     {
+        let made = PartyMove { sender, mv };
         let done = turn::make(
             &mut self.ledgers,
             &self.deal,
             self.seeds.as_slice(),
-            sender,
-            mv,
+            &made,
             swept,
         );
         self.stopped = done.is_err();
@@ -426,51 +316,40 @@ impl World {
         ensures ok { OnOk result (self.new
             ≡ record self.old { state = apply_step (is_slot_swept swept.now) (world_cast self.old) self.old.state (Event.Call sender mv.now) }) }
         ensures told { IfOk result (λ r. r ≡ event_told (is_slot_swept swept.now) (world_cast self.old) self.old.state (Event.Call sender mv.now)) }
-        ensures cast { OnErr result (world_cast self.new ≡ world_cast self.old) }
-        ensures asked { OnErr result (self.new.state.asked ≡ self.old.state.asked) }
-        ensures answers { OnErr result (self.new.answers ≡ self.old.answers) }
-        ensures book { OnErr result ((self.new.state.book ≡ self.old.state.book)
-            ⊎ (self.new.state.book ≡ (apply_step (is_slot_swept swept.now) (world_cast self.old) self.old.state (Event.Call sender mv.now)).book)) }
+        ensures cut { OnErr result (IsCutAt (apply_step (is_slot_swept swept.now) (world_cast self.old) self.old.state (Event.Call sender mv.now)) self.old self.new) }
     {
-        let Actor::Planned(planner) = &mut self.actors[sender as usize] else {
+        let Player::Planned(planner) = &mut self.actors[sender as usize] else {
             return self.make_plain(sender, mv, swept);
         };
+        let made = PartyMove { sender, mv };
         let done = turn::make_by_hand(
             planner,
             &mut self.ledgers,
             &self.deal,
             self.seeds.as_slice(),
-            sender,
-            mv,
+            &made,
             swept,
         );
         self.stopped = done.is_err();
         done
     }
 
-    /// Lets a conforming party crash within its act, and restart.
+    /// Lets a conforming party crash within its act and restart.
     fn crash(&mut self, p: PartyId, k: u8, image: u8) -> Result<(), NoMemory>
         requires event { CanCrash self.old.deal self.old.conforming p k }
         requires goes_on { self.old.stopped ≡ false }
         ensures ok { OnOk result (self.new ≡ record self.old { state = step (world_cast self.old) self.old.state (Event.Crash p k image) }) }
-        ensures cast { OnErr result (world_cast self.new ≡ world_cast self.old) }
-        ensures asked { OnErr result (self.new.state.asked ≡ self.old.state.asked) }
-        ensures answers { OnErr result (self.new.answers ≡ self.old.answers) }
-        ensures book { self.new.state.book ≡ self.old.state.book }
+        ensures cut { OnErr result (IsCutAt (step (world_cast self.old) self.old.state (Event.Crash p k image)) self.old self.new) }
     {
-        let alloc = *self.ledgers.allocator();
-        let Actor::Conforming(machine) = &mut self.actors[p as usize] else {
-            unreachable!();
+        let Player::Conforming(machine, journal) = &mut self.actors[p as usize] else {
+            return Ok(());
         };
-        let Some(journal) = &mut self.journals[p as usize] else {
-            unreachable!();
-        };
-        let done = journals::crash(alloc, machine, journal, &self.deal, &self.ledgers, k, image);
+        let done = journals::crash(machine, journal, &self.deal, &self.ledgers, k, image);
         self.stopped = done.is_err();
         done
     }
 
-    /// Lets an event happen.
+    /// Takes an event. After want of memory the caller stops the world.
     fn happen<A: Strategies>(
         &mut self,
         strategies: &A,
@@ -503,7 +382,7 @@ impl World {
         }
     }
 
-    /// Takes an event, where memory never ran out.
+    /// Takes an event. After want of memory the world is stopped.
     fn take<A: Strategies>(
         &mut self,
         strategies: &A,
@@ -528,13 +407,13 @@ impl World {
         }
     }
 
-    /// Where further memory of this world would lie.
+    /// Where this world takes its memory.
     pub(crate) fn allocator(&self) -> Global {
         *self.ledgers.allocator()
     }
 
-    /// At most `most` rounds in which nobody makes a call, so that ticks alone lead to the same
-    /// state once one more round follows.
+    /// At most `most` rounds in which nobody makes a call. Their ticks alone, and one more round,
+    /// lead to the same state as the rounds.
     pub(crate) fn quiet_rounds(&self, near: &[Listed<ArcId>], most: u64) -> u64
         requires near { near.now ≡ all_adjacent self.now.deal }
         requires goes_on { self.now.stopped ≡ false }
@@ -546,7 +425,7 @@ impl World {
         self.rest_rounds(near, low)
     }
 
-    /// At most `most` rounds in which nobody makes a call, so that only ticks come between them.
+    /// At most `most` rounds in which nobody makes a call, where only ticks come between them.
     pub fn rest_rounds(&self, near: &[Listed<ArcId>], most: u64) -> u64
         requires near { near.now ≡ all_adjacent self.now.deal }
         requires goes_on { self.now.stopped ≡ false }
@@ -627,10 +506,11 @@ impl World {
         many::run(self, strategies, events)
     }
 
-    /// The fair finish: rounds until each ledger is above the horizon. In a round each party in its
-    /// order looks at each arc that touches it and acts: until nothing is due where it conforms,
-    /// else once. Then each ledger that isn't above the horizon ticks by one height. After want of
-    /// memory every later step wants memory too.
+    /// The fair finish: rounds until each ledger is above the horizon. In a round the parties have
+    /// their turns in order. In its turn a party looks at each arc that touches it. Then it acts: a
+    /// conforming party until nothing is due, another one once. At the end of the round each ledger
+    /// that isn't above the horizon ticks by one height. After want of memory every later step
+    /// wants memory too.
     pub fn finish_fair<A: Strategies>(&mut self, strategies: &A) -> Result<(), NoMemory>
         requires held { AreHeld (A.holds strategies.now) self.old.roles }
         ensures ok { OnOk result (HasGone (A.gives strategies.now) finish self.old self.new) }
@@ -665,8 +545,8 @@ impl World {
         self.ledgers[arc as usize].height()
     }
 
-    /// Ticks each ledger of these arcs, those that stand on a chain, by k heights. It makes all
-    /// ticks; where there is no memory for a further entry then, the world is stopped.
+    /// Ticks the ledgers of these arcs, which stand on one chain, by k heights. It makes all ticks.
+    /// The world is stopped if there is no memory for a further entry after them.
     pub fn tick_ledgers(&mut self, on: &[ArcId], k: u32)
         requires some { 1 ≤ k }
         requires below { k ≤ 1000000 }
@@ -689,7 +569,7 @@ impl World {
         self.stopped
     }
 
-    /// The disk of a conforming party, also where memory ran out on the way.
+    /// The disk of a conforming party, also after want of memory.
     pub fn disk(&self, p: PartyId) -> &MemoryDisk
         requires party { p < self.now.deal.graph.n }
         requires conforms { conforms (world_cast self.now) p ≡ true }
@@ -697,8 +577,8 @@ impl World {
         // What a read gives is among what a crash may leave.
         ensures read { Leaves result.now.held (visible_bytes result.now.held) }
 
-        // Each crash leaves the hashkey of each unlock call that the party made, on whatever arc,
-        // recorded for its lock; and so does a read.
+        // Each crash leaves the hashkey of each unlock call that the party made, on any arc,
+        // recorded for its lock.
         ensures calls { (a : ℕ) (past : List Entry) (e : Entry) (key : Hashkey) → IsMoment (history self.now.state.book a) past e
             → pick_call p e ≡ Some (Unlock key) → (c : List ℕ) → Leaves result.now.held c → recorded c key.lock ≡ Some key }
 
@@ -706,15 +586,24 @@ impl World {
         ensures only { (i : ℕ) (key : Hashkey) → i < length self.now.deal.leaders → (c : List ℕ) → Leaves result.now.held c
             → recorded c i ≡ Some key → signed_hashkey (state_notes self.now.state p).signed i ≡ Some key }
 
-        // It leaves all those recorded that the party signed, unless memory ran out between signing
-        // and recording.
+        // Unless memory ran out, it leaves just the hashkeys recorded that the party signed.
         ensures durable { self.now.stopped ≡ false → (i : ℕ) → i < length self.now.deal.leaders → (c : List ℕ) → Leaves result.now.held c
             → recorded c i ≡ signed_hashkey (state_notes self.now.state p).signed i }
     {
-        let Some(journal) = &self.journals[p as usize] else {
+        let Player::Conforming(_, journal) = &self.actors[p as usize] else {
             unreachable!();
         };
         journal.memory()
+    }
+
+    /// Unless memory ran out, the disk of each conforming party has recorded each hashkey that the
+    /// party presented, and just those that it signed. This takes no time.
+    pub fn recorded(&self)
+        ensures { self.now.stopped ≡ false → AreRecorded (world_cast self.now) self.now.state }
+    {
+        if self.stopped {
+            return;
+        }
     }
 
     /// Both balances and the held amount of an arc, in units.
@@ -751,7 +640,7 @@ impl World {
         ledgers
     }
 
-    /// A copy of the book of the histories so far, also where memory ran out on the way.
+    /// A copy of the book of the histories so far, also after want of memory.
     pub fn copy_book(&self, alloc: Global) -> Result<Book, NoMemory>
         ensures value { IfOk result (λ b. b.histories ≡ self.now.state.book) }
         ensures legal { IsLegalBook self.now.deal self.now.state.book }
@@ -763,7 +652,7 @@ impl World {
         })
     }
 
-    /// The book of the histories so far, also where memory ran out on the way.
+    /// The book of the histories so far, also after want of memory.
     pub fn into_book(self, alloc: Global) -> Result<Book, NoMemory>
         ensures value { IfOk result (λ b. b.histories ≡ self.state.book) }
         ensures legal { IsLegalBook self.deal self.state.book }

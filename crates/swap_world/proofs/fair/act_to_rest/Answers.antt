@@ -54,13 +54,12 @@ returns-in_err-act_if_due-clause-err g c =
     subst (λ x. conforms x c.args.p ≡ true) (sym (cast_gone gives (λ x s. repeat c.acts.counter (act_of c.args.p x) s) w mid c.acts.invariant))
     c.requires.conforms in
     let cut =
-    cut_to gives (act_of c.args.p) mid new (quiet_run (world_cast mid) mid.state c.args.p (alone_conforming
-    (world_cast mid) c.args.p conforming)) e.cast e.asked
-    e.answers e.book in
+    cut_to gives (act_of c.args.p) mid new
+    (quiet_run (world_cast mid) mid.state c.args.p (alone_conforming (world_cast mid) c.args.p conforming)) e.cut in
     if_err _ (repeat_stops gives (act_of c.args.p) w mid new (most_acts w.deal) c.acts.counter c.acts.invariant (λ x s. Act c.args.p ∷ [])
     (λ x s. replicate (most_acts w.deal) (Act c.args.p))
     (λ a b k. along_acts (answering_cast w a) (most_acts w.deal) c.acts.counter c.args.p w.state b l k)
-    (stopped_in gives mid new (Act c.args.p) e.stopped cut))
+    (stopped_in gives mid new (Act c.args.p) e.cut.stopped cut))
 
 pub returns-then-not-branch-clause-ok : goal.returns-then-not-branch-clause-ok
 returns-then-not-branch-clause-ok g c =

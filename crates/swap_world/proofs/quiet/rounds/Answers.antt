@@ -5,7 +5,7 @@ use Rattle.swap_rules.proofs.Prefixes.{same_or_not}
 use Rattle.swap_run.specs.Fair.{adjacent_arcs}
 use Rattle.swap_world.specs.Acting.{histories}
 use Rattle.swap_world.specs.Quiet.{IsCalmActor, IsReadyActor}
-use Rattle.swap_world.specs.declared.actor.Actor.{Actor}
+use Rattle.swap_world.specs.Players.{Actor}
 use Rattle.swap_world.proofs.Finishes.{near_at, near_many}
 use Rattle.swap_world.proofs.Idle.{actor_less, any_default}
 use Rattle.swap_world.proofs.quiet.rounds.Goals as goal

@@ -2,7 +2,7 @@ use Rattle.std.proofs.Common.{ℕ, ◌<◌, ◌≤◌, length, slice_index_or}
 use Rattle.swap_run.specs.Fair.{adjacent_arcs}
 use Rattle.swap_world.specs.Acting.{histories}
 use Rattle.swap_world.specs.Quiet.{IsCalmActor}
-use Rattle.swap_world.specs.declared.actor.Actor.{Actor}
+use Rattle.swap_world.specs.Players.{Actor}
 use Rattle.swap_world.proofs.quiet.rounds.Given as goal
 
 abbrev pub invariant-parties : goal.invariant-parties

@@ -17,15 +17,15 @@ use Rattle.swap_world.proofs.turn.make.Goals.{After-index_mut, After-call}
 
 -- The call and its ledger.
 module _ (c : goal.After-index_mut) where
-  comes : resolved c.args.deal.now c.args.seeds.now (histories c.args.ledgers.now.items) c.args.mv.now ≡ Some (c.in-Some.arc, c.in-Some.made)
+  comes : resolved c.args.deal.now c.args.seeds.now (histories c.args.ledgers.now.items) c.args.made.now.mv.now ≡ Some (c.in-Some.arc, c.in-Some.due)
   comes =
-      ap (λ xs. resolved c.args.deal.now c.args.seeds.now (histories xs) c.args.mv.now) (sym c.deref.ensures.value)
+      ap (λ xs. resolved c.args.deal.now c.args.seeds.now (histories xs) c.args.made.now.mv.now) (sym c.deref.ensures.value)
       ∙ (sym c.in_ok-arc.ensures.exact ∙ c.in-Some.is)
 
-  may : IsPartyAnswer c.args.deal.now c.args.sender (c.in-Some.arc, c.in-Some.made)
-  may = may_resolve c.args.deal.now c.args.seeds.now c.args.sender (histories c.args.ledgers.now.items) c.args.mv.now
+  may : IsPartyAnswer c.args.deal.now c.args.made.now.sender (c.in-Some.arc, c.in-Some.due)
+  may = may_resolve c.args.deal.now c.args.seeds.now c.args.made.now.sender (histories c.args.ledgers.now.items) c.args.made.now.mv.now
       (legal_book c.args.deal.now c.args.ledgers.now.items c.requires.ledgers) (record { fits = c.requires.fits; adjacent = c.requires.near })
-      (c.in-Some.arc, c.in-Some.made) comes
+      (c.in-Some.arc, c.in-Some.due) comes
 
   below : c.in-Some.arc < length c.args.ledgers.now.items
   below = subst (λ n. c.in-Some.arc < n) (sym c.requires.ledgers.one_each) may.arc
@@ -37,8 +37,8 @@ pub call-requires-clause-fits : goal.call-requires-clause-fits
 call-requires-clause-fits c =
     let o = (goal.at.call-requires-clause-fits c).After-index_mut in
     let k = its o in
-    subst (λ x. IsTrue (fit x c.index_mut.result.now.arc c.in-Some.made)) (sym k.deal)
-    (subst (λ y. IsTrue (fit c.args.deal.now y c.in-Some.made)) (sym k.arc) (may o).fits)
+    subst (λ x. IsTrue (fit x c.index_mut.result.now.arc c.in-Some.due)) (sym k.deal)
+    (subst (λ y. IsTrue (fit c.args.deal.now y c.in-Some.due)) (sym k.arc) (may o).fits)
 
 pub call-requires-clause-room : goal.call-requires-clause-room
 call-requires-clause-room c =
@@ -49,21 +49,21 @@ returns-in-Some-clause-room c =
     room_on c.call.result c.args.ledgers.now.items c.in-Some.arc c.call.new.ledger c.requires.room c.call.ensures.room
 
 -- The histories behind the call.
-module _ (c : goal.After-call) (r : resolved c.args.deal.now c.args.seeds.now (histories c.args.ledgers.now.items) c.args.mv.now
-    ≡ Some (c.in-Some.arc, c.in-Some.made)) (low : c.in-Some.arc < length c.args.ledgers.now.items)
+module _ (c : goal.After-call) (r : resolved c.args.deal.now c.args.seeds.now (histories c.args.ledgers.now.items) c.args.made.now.mv.now
+    ≡ Some (c.in-Some.arc, c.in-Some.due)) (low : c.in-Some.arc < length c.args.ledgers.now.items)
     (k : IsArcLedger c.args.deal.now c.in-Some.arc c.index_mut.result.now)
   where
     gone : histories (set c.args.ledgers.now.items c.in-Some.arc c.call.new.ledger)
-        ≡ taken (is_slot_swept c.args.swept.now) c.args.deal.now c.args.sender
-        (resolved c.args.deal.now c.args.seeds.now (histories c.args.ledgers.now.items) c.args.mv.now) (histories c.args.ledgers.now.items)
+        ≡ taken (is_slot_swept c.args.swept.now) c.args.deal.now c.args.made.now.sender
+        (resolved c.args.deal.now c.args.seeds.now (histories c.args.ledgers.now.items) c.args.made.now.mv.now) (histories c.args.ledgers.now.items)
     gone =
         let d = c.args.deal.now in
         let ls = c.args.ledgers.now.items in
         let w = is_slot_swept c.args.swept.now c.in-Some.arc in
-        book_ok ls c.in-Some.arc c.index_mut.result.now c.call.new.ledger (landed w d c.in-Some.arc c.args.sender c.in-Some.made) low
-        c.index_mut.ensures.value (landed_called w d c.in-Some.arc c.args.sender c.in-Some.made c.index_mut.result.now c.call.new.ledger k
+        book_ok ls c.in-Some.arc c.index_mut.result.now c.call.new.ledger (landed w d c.in-Some.arc c.args.made.now.sender c.in-Some.due) low
+        c.index_mut.ensures.value (landed_called w d c.in-Some.arc c.args.made.now.sender c.in-Some.due c.index_mut.result.now c.call.new.ledger k
         (rw c.is_swept-is.ensures at c.call.ensures.leaves))
-        ∙ ap (λ (o : Option (ℕ × Call)). taken (is_slot_swept c.args.swept.now) d c.args.sender o (histories ls)) (sym r)
+        ∙ ap (λ (o : Option (ℕ × Call)). taken (is_slot_swept c.args.swept.now) d c.args.made.now.sender o (histories ls)) (sym r)
 
 pub returns-in-Some-clause-ok : goal.returns-in-Some-clause-ok
 returns-in-Some-clause-ok c =
@@ -85,7 +85,7 @@ returns-in-Some-clause-told c =
     let l = c.index_mut.result.now in
     let w = is_slot_swept c.args.swept.now c.in-Some.arc in
     if_told c.call.result (λ t e.
-    told_called w d c.in-Some.arc c.args.sender c.in-Some.made l t (its o) e
-    ∙ (ap (call_told w d c.in-Some.arc c.args.sender c.in-Some.made) (sym (history_at ls c.in-Some.arc l (below o) c.index_mut.ensures.value))
-    ∙ ap (λ (o : Option (ℕ × Call)). party_told (is_slot_swept c.args.swept.now) d c.args.sender o (histories ls)) (sym (comes o))))
+    told_called w d c.in-Some.arc c.args.made.now.sender c.in-Some.due l t (its o) e
+    ∙ (ap (call_told w d c.in-Some.arc c.args.made.now.sender c.in-Some.due) (sym (history_at ls c.in-Some.arc l (below o) c.index_mut.ensures.value))
+    ∙ ap (λ (o : Option (ℕ × Call)). party_told (is_slot_swept c.args.swept.now) d c.args.made.now.sender o (histories ls)) (sym (comes o))))
     (rw c.is_swept-is.ensures at c.call.ensures.told)

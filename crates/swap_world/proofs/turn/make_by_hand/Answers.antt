@@ -12,9 +12,9 @@ pub take-requires-clause-may : goal.take-requires-clause-may
 take-requires-clause-may c =
     let d = c.args.deal.now in
     let ls = c.args.ledgers.now.items in
-    λ x q. may_resolve d c.args.seeds.now c.args.sender (histories ls) c.args.mv.now (legal_book d ls c.requires.ledgers)
+    λ x q. may_resolve d c.args.seeds.now c.args.made.now.sender (histories ls) c.args.made.now.mv.now (legal_book d ls c.requires.ledgers)
     (record { fits = c.requires.fits; adjacent = c.requires.near }) x
-    (ap (λ xs. resolved d c.args.seeds.now (histories xs) c.args.mv.now) (sym c.deref.ensures.value) ∙ (sym c.in_ok-made.ensures.exact ∙ q))
+    (ap (λ xs. resolved d c.args.seeds.now (histories xs) c.args.made.now.mv.now) (sym c.deref.ensures.value) ∙ (sym c.in_ok-due.ensures.exact ∙ q))
 
 pub returns-clause-ok : goal.returns-clause-ok
 returns-clause-ok c =
@@ -22,8 +22,8 @@ returns-clause-ok c =
     let ls = c.args.ledgers.now.items in
     let is =
     c.take.ensures.leaves
-    ∙ ap (λ (o : Option (ℕ × Call)). taken (is_slot_swept c.args.swept.now) d c.args.sender o (histories ls))
-    (c.in_ok-made.ensures.exact ∙ ap (λ xs. resolved d c.args.seeds.now (histories xs) c.args.mv.now) c.deref.ensures.value) in
+    ∙ ap (λ (o : Option (ℕ × Call)). taken (is_slot_swept c.args.swept.now) d c.args.made.now.sender o (histories ls))
+    (c.in_ok-due.ensures.exact ∙ ap (λ xs. resolved d c.args.seeds.now (histories xs) c.args.made.now.mv.now) c.deref.ensures.value) in
     if_ok c.take.result is
 
 pub returns-clause-err : goal.returns-clause-err
@@ -32,6 +32,6 @@ returns-clause-err c =
     let ls = c.args.ledgers.now.items in
     let is =
     c.take.ensures.leaves
-    ∙ ap (λ (o : Option (ℕ × Call)). taken (is_slot_swept c.args.swept.now) d c.args.sender o (histories ls))
-    (c.in_ok-made.ensures.exact ∙ ap (λ xs. resolved d c.args.seeds.now (histories xs) c.args.mv.now) c.deref.ensures.value) in
+    ∙ ap (λ (o : Option (ℕ × Call)). taken (is_slot_swept c.args.swept.now) d c.args.made.now.sender o (histories ls))
+    (c.in_ok-due.ensures.exact ∙ ap (λ xs. resolved d c.args.seeds.now (histories xs) c.args.made.now.mv.now) c.deref.ensures.value) in
     if_err c.take.result (inr is)

@@ -1,4 +1,4 @@
-use Rattle.std.proofs.Common.{◌≡◌, ◌⊎◌, ◌<◌, ℕ, Bool, OnOk, OnErr, IfOk, set, slice_index_or, false, sym, ◌∙◌, subst}
+use Rattle.std.proofs.Common.{◌≡◌, ◌⊎◌, ◌<◌, ℕ, Bool, OnOk, OnErr, IfOk, set, slice_index_or, false, refl, sym, ◌∙◌, subst}
 use Rattle.ledger_core.specs.Book.{Histories}
 use Rattle.deviators.specs.Script.{next_call}
 use Rattle.swap_job.specs.declared.event.Event.TheVariants.{Act}
@@ -9,16 +9,16 @@ use Rattle.swap_run.specs.Shown.{IsShown}
 use Rattle.swap_world.specs.Acting.{histories, taken, seen, party_told, turned}
 use Rattle.swap_world.specs.On.{is_slot_swept}
 use Rattle.swap_world.specs.Inside.{inside_questions, inside_cast, inside_run_state}
-use Rattle.swap_world.specs.declared.actor.Actor.TheVariants.{Planned}
+use Rattle.swap_world.specs.declared.player.Player.TheVariants.{Planned}
 use Rattle.swap_world.specs.declared.world.World.TheInside.{Inside}
-use Rattle.swap_world.proofs.Kept.{journals_planned}
-use Rattle.swap_world.proofs.Ledgers.{on_err, either}
+use Rattle.swap_world.specs.Journals.{IsJournaled}
+use Rattle.swap_world.proofs.Ledgers.{each_set, on_err, either}
 use Rattle.swap_world.proofs.Gone.{not_asking}
 use Rattle.swap_world.proofs.On.{if_told}
 use Rattle.swap_world.proofs.Plans.{IsScript, scripted}
-use Rattle.swap_world.proofs.Disks.{disks_stay, err_unless, have_either, planned_signed}
+use Rattle.swap_world.proofs.Disks.{HasSigned, disks_stay, err_unless, have_either}
 use Rattle.swap_world.proofs.States.{actor_set, state, followed, followed_book, followed_notes, followed_told}
-use Rattle.swap_world.proofs.Worlds.{good_unless, kept_on, acted_on, both}
+use Rattle.swap_world.proofs.Worlds.{good_unless, kept_on, acted_on, cut_at, both}
 use Rattle.swap_world.proofs.Places.{IsPlanOf, plan_found, plan_each, plan_before, plan_shown}
 use Rattle.swap_world.proofs.Rooms.{room_unless}
 use Rattle.swap_world.proofs.world.World.follow.Goals as goal
@@ -109,7 +109,7 @@ invariant_of-self-2 c =
     let i = c.self.inside in
     let xs = i.actors.items in
     let new = c.follow-done.new.planner in
-    let journals = journals_planned i.deal xs i.journals.items c.args.p new (c.self.invariant.journals (goes_on o)) (place o).below in
+    let journals = each_set (IsJournaled i.deal) xs c.args.p (Planned new) (c.self.invariant.journals (goes_on o)) (place o).below tt in
     record {
       ready = c.self.invariant.ready;
       ledgers = c.follow-done.ensures.ledgers;
@@ -124,11 +124,12 @@ invariant_of-self-2 c =
       journals = λ on. journals;
       disks =
           λ on. err_unless c.follow-done.result c.is_err-self-inside.result c.is_err-self-inside.ensures.value on (on_err c.follow-done.result
-          (λ two. disks_stay i.deal (b o) (set xs c.args.p (Planned new)) i.journals.items journals
-          (planned_signed i.deal (b o) xs c.args.p new (place o).below
+          (λ two. disks_stay i.deal (b o) (set xs c.args.p (Planned new)) journals
+          (each_set (HasSigned i.deal (b o)) xs c.args.p (Planned new)
           (have_either i.deal i.conforming i.seeds i.roles (inside_questions i) i.ledgers.items xs (sw o) (Act c.args.p) (b o) c.self.invariant.actors
           c.self.invariant.ready (known o) (c.self.invariant.good (goes_on o))
-          (followed_notes i.deal i.conforming i.seeds i.roles (inside_questions i) i.ledgers.items xs (sw o) c.args.p (n o) (place o) (script o)) two))) (cut o));
+          (followed_notes i.deal i.conforming i.seeds i.roles (inside_questions i) i.ledgers.items xs (sw o) c.args.p (n o) (place o) (script o)) two)
+          (place o).below tt)) (cut o));
       kept = kept_on c.follow-done.result (sw o) (inside_cast i) (inside_run_state i) (after o) (Act c.args.p) (done o) (cut o)
           c.self.invariant.ready (known o) (c.self.invariant.good (goes_on o));
     }
@@ -141,8 +142,13 @@ returns-clause-ok c =
     (acted_on c.follow-done.result i.deal i.conforming i.seeds i.roles i.answers.items i.stopped c.is_err-self-inside.result _ _
     c.is_err-self-inside.ensures.value (goes_on o) (done o))
 
-pub returns-clause-book : goal.returns-clause-book
-returns-clause-book c = rw (← c.self.view_is) (cut (goal.at.returns-clause-book c).After-is_err-self-inside)
+pub returns-clause-cut : goal.returns-clause-cut
+returns-clause-cut c =
+    let o = (goal.at.returns-clause-cut c).After-is_err-self-inside in
+    let i = c.self.inside in
+    rw (← c.self.view_is)
+    (cut_at c.follow-done.result i.deal i.conforming i.seeds i.roles i.answers.items i.stopped c.is_err-self-inside.result (inside_run_state i) _ (after o)
+    c.is_err-self-inside.ensures.value refl (cut o))
 
 pub returns-clause-told : goal.returns-clause-told
 returns-clause-told c =

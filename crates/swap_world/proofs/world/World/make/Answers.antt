@@ -1,4 +1,4 @@
-use Rattle.std.proofs.Common.{◌≡◌, ◌⊎◌, ℕ, Bool, OnOk, OnErr, IfOk, set, false, ◌∙◌, subst}
+use Rattle.std.proofs.Common.{◌≡◌, ◌⊎◌, ℕ, Bool, OnOk, OnErr, IfOk, set, false, refl, ◌∙◌, subst}
 use Rattle.ledger_core.specs.Book.{Histories}
 use Rattle.swap_job.specs.Resolved.{resolved}
 use Rattle.swap_job.specs.Step.{CanCall}
@@ -9,14 +9,14 @@ use Rattle.swap_run.specs.Run.{Plan, State}
 use Rattle.swap_world.specs.Acting.{histories, taken, seen, party_told}
 use Rattle.swap_world.specs.On.{is_slot_swept}
 use Rattle.swap_world.specs.Inside.{inside_questions, inside_cast, inside_run_state}
-use Rattle.swap_world.specs.declared.actor.Actor.TheVariants.{Planned}
+use Rattle.swap_world.specs.declared.player.Player.TheVariants.{Planned}
 use Rattle.swap_world.specs.declared.world.World.TheInside.{Inside}
-use Rattle.swap_world.proofs.Kept.{journals_planned}
-use Rattle.swap_world.proofs.Ledgers.{on_err, either}
+use Rattle.swap_world.specs.Journals.{IsJournaled}
+use Rattle.swap_world.proofs.Ledgers.{each_set, on_err, either}
 use Rattle.swap_world.proofs.On.{if_told}
-use Rattle.swap_world.proofs.Disks.{disks_stay, err_unless, have_either, planned_signed}
+use Rattle.swap_world.proofs.Disks.{HasSigned, disks_stay, err_unless, have_either}
 use Rattle.swap_world.proofs.States.{actor_set, state, made_by_hand, made_book, made_notes, made_told}
-use Rattle.swap_world.proofs.Worlds.{good_unless, kept_on, acted_on, both}
+use Rattle.swap_world.proofs.Worlds.{good_unless, kept_on, acted_on, cut_at, both}
 use Rattle.swap_world.proofs.Places.{IsPlanOf, plan_found, plan_each, plan_before}
 use Rattle.swap_world.proofs.Rooms.{room_unless}
 use Rattle.swap_world.proofs.world.World.make.Goals as goal
@@ -103,7 +103,7 @@ invariant_of-self-2 c =
     let i = c.self.inside in
     let xs = i.actors.items in
     let new = c.make_by_hand-done.new.planner in
-    let journals = journals_planned i.deal xs i.journals.items c.args.sender new (c.self.invariant.journals (goes_on o)) (place o).below in
+    let journals = each_set (IsJournaled i.deal) xs c.args.sender (Planned new) (c.self.invariant.journals (goes_on o)) (place o).below tt in
     record {
       ready = c.self.invariant.ready;
       ledgers = c.make_by_hand-done.ensures.ledgers;
@@ -119,11 +119,12 @@ invariant_of-self-2 c =
       journals = λ on. journals;
       disks =
           λ on. err_unless c.make_by_hand-done.result c.is_err-self-inside.result c.is_err-self-inside.ensures.value on
-          (on_err c.make_by_hand-done.result (λ two. disks_stay i.deal (b o) (set xs c.args.sender (Planned new)) i.journals.items journals
-          (planned_signed i.deal (b o) xs c.args.sender new (place o).below
+          (on_err c.make_by_hand-done.result (λ two. disks_stay i.deal (b o) (set xs c.args.sender (Planned new)) journals
+          (each_set (HasSigned i.deal (b o)) xs c.args.sender (Planned new)
           (have_either i.deal i.conforming i.seeds i.roles (inside_questions i) i.ledgers.items xs (sw o) (Made c.args.sender c.args.mv.now) (b o)
           c.self.invariant.actors c.self.invariant.ready (can o) (c.self.invariant.good (goes_on o))
-          (made_notes i.deal i.conforming i.seeds i.roles (inside_questions i) i.ledgers.items xs (sw o) c.args.sender c.args.mv.now (n o) (place o)) two))) (cut o));
+          (made_notes i.deal i.conforming i.seeds i.roles (inside_questions i) i.ledgers.items xs (sw o) c.args.sender c.args.mv.now (n o) (place o)) two)
+          (place o).below tt)) (cut o));
       kept = kept_on c.make_by_hand-done.result (sw o) (inside_cast i) (inside_run_state i) (after o) (Made c.args.sender c.args.mv.now) (done o) (cut o)
           c.self.invariant.ready (can o) (c.self.invariant.good (goes_on o));
     }
@@ -136,8 +137,13 @@ returns-clause-ok c =
     (acted_on c.make_by_hand-done.result i.deal i.conforming i.seeds i.roles i.answers.items i.stopped c.is_err-self-inside.result _ _
     c.is_err-self-inside.ensures.value (goes_on o) (done o))
 
-pub returns-clause-book : goal.returns-clause-book
-returns-clause-book c = rw (← c.self.view_is) (cut (goal.at.returns-clause-book c).After-is_err-self-inside)
+pub returns-clause-cut : goal.returns-clause-cut
+returns-clause-cut c =
+    let o = (goal.at.returns-clause-cut c).After-is_err-self-inside in
+    let i = c.self.inside in
+    rw (← c.self.view_is)
+    (cut_at c.make_by_hand-done.result i.deal i.conforming i.seeds i.roles i.answers.items i.stopped c.is_err-self-inside.result (inside_run_state i) _ (after o)
+    c.is_err-self-inside.ensures.value refl (cut o))
 
 pub returns-clause-told : goal.returns-clause-told
 returns-clause-told c =

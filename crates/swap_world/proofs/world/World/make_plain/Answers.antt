@@ -1,4 +1,4 @@
-use Rattle.std.proofs.Common.{◌≡◌, ℕ, Bool, false, sym, ap, ◌∙◌, subst, ◌⊎◌, OnOk, OnErr, IfOk}
+use Rattle.std.proofs.Common.{◌≡◌, ℕ, Bool, false, refl, sym, ap, ◌∙◌, subst, ◌⊎◌, OnOk, OnErr, IfOk}
 use Rattle.ledger_core.specs.Book.{Histories}
 use Rattle.swap_job.specs.Step.{CanCall}
 use Rattle.swap_job.specs.declared.event.Event.TheVariants.{Call as Made}
@@ -16,7 +16,7 @@ use Rattle.swap_world.proofs.Ledgers.{on_ok, on_err, either}
 use Rattle.swap_world.proofs.Rooms.{room_unless}
 use Rattle.swap_world.proofs.Disks.{disks_stay, err_unless, have_either}
 use Rattle.swap_world.proofs.States.{state, made_told}
-use Rattle.swap_world.proofs.Worlds.{good_unless, kept_on, acted_on}
+use Rattle.swap_world.proofs.Worlds.{good_unless, kept_on, acted_on, cut_at}
 use Rattle.swap_world.proofs.world.World.make_plain.Goals as goal
 use Rattle.swap_world.proofs.world.World.make_plain.Goals.{After-is_err-self-inside}
 
@@ -89,7 +89,7 @@ invariant_of-self c =
       journals = λ on. c.self.invariant.journals (goes_on o);
       disks =
           λ on. err_unless c.make-done.result c.is_err-self-inside.result c.is_err-self-inside.ensures.value on (on_err c.make-done.result
-          (λ two. disks_stay i.deal (b o) i.actors.items i.journals.items (c.self.invariant.journals (goes_on o))
+          (λ two. disks_stay i.deal (b o) i.actors.items (c.self.invariant.journals (goes_on o))
           (have_either i.deal i.conforming i.seeds i.roles (inside_questions i) i.ledgers.items i.actors.items (sw o) (Made c.args.sender c.args.mv.now) (b o)
           c.self.invariant.actors c.self.invariant.ready (can o) good (sym (ap (λ (t : State). t.notes) (to o))) two)) (cut o));
       kept = kept_on c.make-done.result (sw o) (inside_cast i) (inside_run_state i) (after o) (Made c.args.sender c.args.mv.now) (done o) (cut o)
@@ -104,8 +104,13 @@ returns-clause-ok c =
     (acted_on c.make-done.result i.deal i.conforming i.seeds i.roles i.answers.items i.stopped c.is_err-self-inside.result _ _
     c.is_err-self-inside.ensures.value (goes_on o) (done o))
 
-pub returns-clause-book : goal.returns-clause-book
-returns-clause-book c = rw (← c.self.view_is) (cut (goal.at.returns-clause-book c).After-is_err-self-inside)
+pub returns-clause-cut : goal.returns-clause-cut
+returns-clause-cut c =
+    let o = (goal.at.returns-clause-cut c).After-is_err-self-inside in
+    let i = c.self.inside in
+    rw (← c.self.view_is)
+    (cut_at c.make-done.result i.deal i.conforming i.seeds i.roles i.answers.items i.stopped c.is_err-self-inside.result (inside_run_state i) _ (after o)
+    c.is_err-self-inside.ensures.value refl (cut o))
 
 pub returns-clause-told : goal.returns-clause-told
 returns-clause-told c =

@@ -5,7 +5,7 @@ use Rattle.swap_world.specs.Value.{WorldState, world_cast}
 use Rattle.swap_world.specs.Acting.{histories}
 use Rattle.swap_world.specs.Inside.{inside_questions}
 use Rattle.swap_world.specs.Quiet.{IsCalmActor, IsReadyActor, IsQuietState}
-use Rattle.swap_world.specs.declared.actor.Actor.{Actor}
+use Rattle.swap_world.specs.Players.{Actor}
 use Rattle.swap_world.proofs.Idle.{are_ready, rests}
 use Rattle.swap_world.proofs.world.World.rest_rounds.Goals as goal
 

@@ -13,7 +13,7 @@ use Rattle.swap_world.proofs.Ledgers.{book_ok, moved, ledger_set}
 use Rattle.swap_world.proofs.Rooms.{room_on, room_unless}
 use Rattle.swap_world.proofs.States.{state}
 use Rattle.swap_world.proofs.Ways.{if_ok, if_err}
-use Rattle.swap_world.proofs.Worlds.{acted_on}
+use Rattle.swap_world.proofs.Worlds.{acted_on, cut_at}
 use Rattle.swap_world.proofs.world.World.tick.Goals as goal
 use Rattle.swap_world.proofs.world.World.tick.Goals.{After-is_err-self-inside}
 
@@ -68,7 +68,7 @@ invariant_of-self c =
           (room_on c.tick-done.result i.ledgers.items c.args.arc new (c.self.invariant.room (goes_on o)) c.tick-done.ensures.room);
       journals = λ on. c.self.invariant.journals (goes_on o);
       disks =
-          λ on. disks_stay i.deal (after o).book i.actors.items i.journals.items (c.self.invariant.journals (goes_on o))
+          λ on. disks_stay i.deal (after o).book i.actors.items (c.self.invariant.journals (goes_on o))
           (have_signed i.deal i.conforming i.seeds i.roles (after o) i.actors.items c.self.invariant.actors good refl);
       kept = good_is_kept (inside_cast i) (after o) c.self.invariant.ready good;
     }
@@ -81,6 +81,10 @@ returns-clause-ok c =
     (acted_on c.tick-done.result i.deal i.conforming i.seeds i.roles i.answers.items i.stopped c.is_err-self-inside.result _ _
     c.is_err-self-inside.ensures.value (goes_on o) (if_ok c.tick-done.result (to o)))
 
-pub returns-clause-book : goal.returns-clause-book
-returns-clause-book c =
-    rw (← c.self.view_is) (if_err c.tick-done.result (inr (ap (λ (t : State). t.book) (to (goal.at.returns-clause-book c).After-is_err-self-inside))))
+pub returns-clause-cut : goal.returns-clause-cut
+returns-clause-cut c =
+    let o = (goal.at.returns-clause-cut c).After-is_err-self-inside in
+    let i = c.self.inside in
+    rw (← c.self.view_is)
+    (cut_at c.tick-done.result i.deal i.conforming i.seeds i.roles i.answers.items i.stopped c.is_err-self-inside.result (inside_run_state i) _ (after o)
+    c.is_err-self-inside.ensures.value refl (if_err c.tick-done.result (inr (ap (λ (t : State). t.book) (to o)))))

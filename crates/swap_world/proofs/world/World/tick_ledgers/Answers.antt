@@ -38,7 +38,7 @@ invariant_of-self c =
       room = λ e. c.tick_all-ready.ensures.room (on_from c.tick_all-ready.result e);
       journals = λ on. c.self.invariant.journals (rw (← c.self.view_is) at c.requires.goes_on);
       disks =
-          λ e. disks_stay i.deal (state i.deal (inside_questions i) i.actors.items (histories c.tick_all-ready.new.ledgers.items)).book i.actors.items i.journals.items
+          λ e. disks_stay i.deal (state i.deal (inside_questions i) i.actors.items (histories c.tick_all-ready.new.ledgers.items)).book i.actors.items
           (c.self.invariant.journals (rw (← c.self.view_is) at c.requires.goes_on))
           (have_signed i.deal i.conforming i.seeds i.roles (state i.deal (inside_questions i) i.actors.items (histories c.tick_all-ready.new.ledgers.items))
           i.actors.items c.self.invariant.actors (subst (IsGood (inside_cast i)) (sym to) good) refl);

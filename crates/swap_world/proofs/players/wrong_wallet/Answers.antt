@@ -1,8 +1,8 @@
-use Rattle.std.proofs.Common.{◌≡◌, ◌<◌, ℕ, List, Option, None, get_or, length, zero-add, sym, ap, ◌∙◌, subst}
+use Rattle.std.proofs.Common.{◌<◌, ℕ, List, Option, get_or, length, zero-add, sym, ap, ◌∙◌, subst}
 use Rattle.std.proofs.lemmas.List.FromFn.{get_or-map-range_with_len, length-map-range_with_len}
 use Rattle.party_wallet.specs.Value.{WalletState}
 use Rattle.party_wallet.specs.Wallets.{job_wallet}
-use Rattle.swap_world.proofs.actors.wrong_wallet.Goals as goal
+use Rattle.swap_world.proofs.players.wrong_wallet.Goals as goal
 
 pub bounds-wallets-p : goal.bounds-wallets-p
 bounds-wallets-p c =

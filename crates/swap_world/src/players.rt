@@ -1,11 +1,11 @@
-//! The actors of a job, and the first of its wallets that is wrong.
+//! What acts for each party of a job, and the first of its wallets that is wrong.
 
 ghost use Rattle.std.specs.Prelude.{◌≡◌, ◌<◌, ◌++◌, ◌∷◌, [], None, IfOk, IfSome, OnOk, length};
 ghost use Rattle.swap_digraph.specs.Deal.{IsWellSized};
 ghost use Rattle.party_wallet.specs.Wallets.{job_wallet, new_wallets};
 ghost use Rattle.swap_world.specs.Actors.{job_actor, by_role, team, mismatched_lock, AllFit, IsFirstWrong};
 
-use crate::actor::Actor;
+use crate::player::Player;
 use party_machine::Machine;
 use party_wallet::Wallet;
 use std::alloc::Global;
@@ -14,7 +14,7 @@ use swap_digraph::Deal;
 use swap_job::{Job, MoveList, Role};
 use swap_run::Planner;
 
-/// The seed of a conforming party doesn't give what the deal states of it for that lock.
+/// A conforming party's seed doesn't give what the deal states of the party for that lock.
 #[derive(Clone, Copy, Debug, PartialEq, Eq)]
 pub struct WrongWallet {
     pub party: PartyId,
@@ -24,7 +24,7 @@ pub struct WrongWallet {
 /// Why a job gives no world and no race: a wallet, or want of memory.
 pub type WorldFault = Fault<WrongWallet>;
 
-/// The least lock for which a party's wallet lacks what the deal states, where it has one.
+/// The least lock for which a party's wallet lacks what the deal states, if the party has a wallet.
 fn find_wrong_lock(job: &Job, p: PartyId, wallet: &Option<Wallet>) -> Option<LockId>
     requires sized { IsWellSized job.now.deal }
     requires party { p < job.now.deal.graph.n }
@@ -37,8 +37,7 @@ fn find_wrong_lock(job: &Job, p: PartyId, wallet: &Option<Wallet>) -> Option<Loc
     }
 }
 
-/// The first conforming party with a seed other than the deal's, and the least lock for which the
-/// seed is another.
+/// The first conforming party whose seed isn't the deal's, and the least lock for which it isn't.
 pub fn wrong_wallet(job: &Job, wallets: &[Option<Wallet>]) -> Option<WrongWallet>
     requires sized { IsWellSized job.now.deal }
     requires wallets { wallets.now ≡ new_wallets job.now.deal job.now.conforming job.now.seeds }
@@ -54,23 +53,27 @@ pub fn wrong_wallet(job: &Job, wallets: &[Option<Wallet>]) -> Option<WrongWallet
 }
 
 /// What acts for a party without a wallet: its script, its strategy, or its own calls alone.
-fn by_role(alloc: Global, deal: &Deal, role: &Role) -> Result<Actor, NoMemory>
+fn by_role(alloc: Global, deal: &Deal, role: &Role) -> Result<Player<()>, NoMemory>
     ensures { IfOk result (λ x. x ≡ by_role deal.now role.now) }
 {
     match role {
-        Role::Script(moves) => Ok(Actor::Planned(Planner::new(alloc, deal, moves.copy()?)?)),
-        Role::Strategy(_) => Ok(Actor::Planned(Planner::new(alloc, deal, MoveList::empty(alloc))?)),
-        _ => Ok(Actor::Manual),
+        Role::Script(moves) => Ok(Player::Planned(Planner::new(alloc, deal, moves.copy()?)?)),
+        Role::Strategy(_) => Ok(Player::Planned(Planner::new(
+            alloc,
+            deal,
+            MoveList::empty(alloc),
+        )?)),
+        _ => Ok(Player::Manual),
     }
 }
 
 /// What acts for a party of the job, by its wallet or else by its role.
-fn new_actor(
+fn new_player(
     alloc: Global,
     job: &Job,
     p: PartyId,
     wallet: Option<Wallet>,
-) -> Result<Actor, NoMemory>
+) -> Result<Player<()>, NoMemory>
     requires sized { IsWellSized job.now.deal }
     requires party { p < job.now.deal.graph.n }
     requires roles { length job.now.roles ≡ job.now.deal.graph.n }
@@ -81,16 +84,16 @@ fn new_actor(
     match wallet {
         Some(wallet) => {
             let machine = Machine::fitting(alloc, &job.deal, p, wallet)?;
-            Ok(Actor::Conforming(machine))
+            Ok(Player::Conforming(machine, ()))
         }
         None => by_role(alloc, &job.deal, &job.roles.as_slice()[p as usize]),
     }
 }
 
-fn add_actor(
+fn add_player(
     alloc: Global,
     job: &Job,
-    actors: &mut Vec<Actor>,
+    players: &mut Vec<Player<()>>,
     p: PartyId,
     wallet: Option<Wallet>,
 ) -> Result<(), NoMemory>
@@ -99,28 +102,28 @@ fn add_actor(
     requires roles { length job.now.roles ≡ job.now.deal.graph.n }
     requires wallet { wallet ≡ job_wallet job.now.deal job.now.conforming job.now.seeds p }
     requires fits { mismatched_lock job.now p ≡ None }
-    ensures { OnOk result (actors.new.items ≡ actors.old.items ++ job_actor job.now p ∷ []) }
+    ensures { OnOk result (players.new.items ≡ players.old.items ++ job_actor job.now p ∷ []) }
 {
-    actors.push(new_actor(alloc, job, p, wallet)?)?;
+    players.push(new_player(alloc, job, p, wallet)?)?;
     Ok(())
 }
 
 /// What acts for each party, by its wallet or else by its role, where every wallet is right.
-pub fn new_actors(
+pub fn new_players(
     alloc: Global,
     job: &Job,
     mut wallets: Vec<Option<Wallet>>,
-) -> Result<Vec<Actor>, NoMemory>
+) -> Result<Vec<Player<()>>, NoMemory>
     requires sized { IsWellSized job.now.deal }
     requires roles { length job.now.roles ≡ job.now.deal.graph.n }
     requires wallets { wallets.items ≡ new_wallets job.now.deal job.now.conforming job.now.seeds }
     requires fit { AllFit job.now }
     ensures { IfOk result (λ v. v.items ≡ team job.now) }
 {
-    let mut actors = Vec::new(alloc);
+    let mut players = Vec::new(alloc);
     'parties: for p in 0..job.deal.graph.n() {
         let wallet = wallets[p as usize].take();
-        add_actor(alloc, job, &mut actors, p, wallet)?;
+        add_player(alloc, job, &mut players, p, wallet)?;
     }
-    Ok(actors)
+    Ok(players)
 }

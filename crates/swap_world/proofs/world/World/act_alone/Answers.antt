@@ -1,4 +1,4 @@
-use Rattle.std.proofs.Common.{◌≡◌, ◌⊎◌, ◌<◌, Bool, set, slice_index_or, false, None, sym, ◌∙◌, subst}
+use Rattle.std.proofs.Common.{◌≡◌, ◌⊎◌, ◌<◌, Bool, set, slice_index_or, false, None, refl, sym, ◌∙◌, subst}
 use Rattle.std.specs.Prelude.{ℕ, OnOk, OnErr}
 use Rattle.swap_digraph.specs.declared.deal.Deal.{Deal}
 use Rattle.ledger_core.specs.Book.{Histories}
@@ -9,20 +9,21 @@ use Rattle.swap_run.specs.Run.{State}
 use Rattle.party_machine.specs.Machine.{MachineState}
 use Rattle.swap_world.specs.Acting.{histories}
 use Rattle.swap_world.specs.Inside.{inside_questions, inside_cast, inside_run_state, AreArcLedgers}
-use Rattle.swap_world.specs.Journals.{IsMachineJournal, IsSomeJournal}
+use Rattle.wallet_journal.specs.Journal.{JournalState}
+use Rattle.wallet_journal.specs.Memory.{DiskState}
+use Rattle.swap_world.specs.Journals.{IsJournaled, IsMachineJournal}
 use Rattle.swap_world.specs.On.{is_slot_swept}
-use Rattle.swap_world.specs.declared.actor.Actor.TheVariants.{Conforming}
+use Rattle.swap_world.specs.declared.player.Player.TheVariants.{Conforming}
 use Rattle.swap_world.specs.declared.world.World.TheInside.{Inside}
 use Rattle.swap_world.proofs.States.{actor_set, state, acted, acted_book, acted_told}
-use Rattle.swap_world.proofs.Ledgers.{on_err, either}
+use Rattle.swap_world.proofs.Ledgers.{each_set, on_err, either}
 use Rattle.swap_world.proofs.On.{if_told}
-use Rattle.swap_world.proofs.Worlds.{good_unless, kept_on, acted_on, both, owned}
+use Rattle.swap_world.proofs.Worlds.{good_unless, kept_on, acted_on, cut_at, both, owned}
 use Rattle.swap_world.proofs.Places.{IsMachineOf, machine_found, machine_before, machine_makable}
-use Rattle.swap_world.proofs.Kept.{journals_act, journal_unless}
-use Rattle.swap_world.proofs.Disks.{err_unless, stopped_disks}
+use Rattle.swap_world.proofs.Disks.{err_unless, ok_unless, stopped_disks}
 use Rattle.swap_world.proofs.Rooms.{room_unless}
-use Rattle.swap_world.proofs.world.World.act_due.Goals as goal
-use Rattle.swap_world.proofs.world.World.act_due.Goals.{In-Conforming, After-is_err-self-inside}
+use Rattle.swap_world.proofs.world.World.act_alone.Goals as goal
+use Rattle.swap_world.proofs.world.World.act_alone.Goals.{In-Conforming, After-is_err-self-inside}
 
 -- What the act asks for.
 module _ (c : goal.In-Conforming) where
@@ -32,37 +33,29 @@ module _ (c : goal.In-Conforming) where
   party : c.args.p < c.self.inside.deal.graph.n
   party = rw (← c.self.view_is) at c.requires.party
 
-  found : IsMachineOf c.self.inside c.args.p c.in-Conforming.machine
+  found : IsMachineOf c.self.inside c.args.p c.in-Conforming.machine c.in-Conforming.journal
   found =
-      machine_found c.self.inside c.self.invariant c.args.p party c.index_mut.result.now c.index_mut.ensures.value c.in-Conforming.machine c.in-Conforming.is
+      machine_found c.self.inside c.self.invariant c.args.p party c.index_mut.result.now c.index_mut.ensures.value c.in-Conforming.machine
+      c.in-Conforming.journal c.in-Conforming.is
 
 pub act-done-requires-clause-makable : goal.act-done-requires-clause-makable
 act-done-requires-clause-makable c =
     let o = (goal.at.act-done-requires-clause-makable c).In-Conforming in
-    machine_makable c.self.inside c.self.invariant (asked o) c.args.p (party o) c.in-Conforming.machine (found o)
+    machine_makable c.self.inside c.self.invariant (asked o) c.args.p (party o) c.in-Conforming.machine c.in-Conforming.journal (found o)
 
 pub act-done-requires-clause-begins : goal.act-done-requires-clause-begins
 act-done-requires-clause-begins c =
     let o = (goal.at.act-done-requires-clause-begins c).In-Conforming in
-    machine_before c.self.inside c.self.invariant (asked o) c.args.p (party o) c.in-Conforming.machine (found o)
-
-pub unreachable-requires-in_default-index_mut : goal.unreachable-requires-in_default-index_mut
-unreachable-requires-in_default-index_mut c =
-    let o = (goal.at.unreachable-requires-in_default-index_mut c).In-Conforming in
-    subst (IsSomeJournal c.self.inside.deal c.args.p c.in-Conforming.machine.signed) c.in_default-index_mut.is
-    ((c.self.invariant.journals (asked o)).each c.args.p c.in-Conforming.machine c.index_mut-2.result.now (found o).below (found o).here
-    c.index_mut-2.ensures.value)
+    machine_before c.self.inside c.self.invariant (asked o) c.args.p (party o) c.in-Conforming.machine c.in-Conforming.journal (found o)
 
 pub act-done-requires-clause-journal : goal.act-done-requires-clause-journal
 act-done-requires-clause-journal c =
     let o = (goal.at.act-done-requires-clause-journal c).In-Conforming in
-    let i = c.self.inside in
     let m = c.in-Conforming.machine in
+    let j = c.in-Conforming.journal in
     let place = found o in
-    let is : IsMachineJournal i.deal c.args.p m.signed c.in-Some.journal =
-    subst (IsSomeJournal i.deal c.args.p m.signed) c.in-Some.is
-    ((c.self.invariant.journals (asked o)).each c.args.p m c.index_mut-2.result.now place.below place.here c.index_mut-2.ensures.value) in
-    subst (λ (x : Deal × ℕ). IsMachineJournal x.0 x.1 m.signed c.in-Some.journal) (λ j. (sym place.is.1 j, sym place.is.2 j)) is
+    subst (λ (x : Deal × ℕ). IsMachineJournal x.0 x.1 m.signed j) (λ t. (sym place.is.1 t, sym place.is.2 t))
+    (c.self.invariant.journals (asked o) c.args.p (Conforming m j) place.below place.here)
 
 pub act-done-requires-clause-room : goal.act-done-requires-clause-room
 act-done-requires-clause-room c = c.self.invariant.room (rw (← c.self.view_is) at c.requires.goes_on)
@@ -78,6 +71,9 @@ module _ (c : goal.After-is_err-self-inside) where
   abbrev m : MachineState
   m = c.in-Conforming.machine
 
+  abbrev j : JournalState DiskState
+  j = c.in-Conforming.journal
+
   abbrev new : MachineState
   new = c.act-done.new.machine
 
@@ -85,7 +81,7 @@ module _ (c : goal.After-is_err-self-inside) where
   b = histories c.act-done.new.ledgers.items
 
   abbrev after : State
-  after = state i.deal (inside_questions i) (set i.actors.items c.args.p (Conforming new)) b
+  after = state i.deal (inside_questions i) (set i.actors.items c.args.p (Conforming new c.act-done.new.journal)) b
 
   goes_on : i.stopped ≡ false
   goes_on = rw (← c.self.view_is) at c.requires.goes_on
@@ -93,34 +89,36 @@ module _ (c : goal.After-is_err-self-inside) where
   known : c.args.p < i.deal.graph.n
   known = rw (← c.self.view_is) at c.requires.party
 
-  place : IsMachineOf i c.args.p m
-  place = machine_found i c.self.invariant c.args.p known c.index_mut.result.now c.index_mut.ensures.value m c.in-Conforming.is
+  place : IsMachineOf i c.args.p m j
+  place = machine_found i c.self.invariant c.args.p known c.index_mut.result.now c.index_mut.ensures.value m j c.in-Conforming.is
 
   done : OnOk c.act-done.result (after ≡ apply_step sw (inside_cast i) (inside_run_state i) (Act c.args.p))
   done =
-      both c.act-done.result (acted i.deal i.conforming i.seeds i.roles (inside_questions i) i.ledgers.items i.actors.items sw c.args.p m new b place)
+      both c.act-done.result (acted i.deal i.conforming i.seeds i.roles (inside_questions i) i.ledgers.items i.actors.items sw c.args.p m new j
+      c.act-done.new.journal b place)
       c.act-done.ensures.ok c.act-done.ensures.knows
 
   cut : OnErr c.act-done.result ((b ≡ (inside_run_state i).book) ⊎ (b ≡ (apply_step sw (inside_cast i) (inside_run_state i) (Act c.args.p)).book))
   cut =
       on_err c.act-done.result (either (λ e. e)
-      (λ e. e ∙ acted_book i.deal i.conforming i.seeds i.roles (inside_questions i) i.ledgers.items i.actors.items sw c.args.p m place)) c.act-done.ensures.err
+      (λ e. e ∙ acted_book i.deal i.conforming i.seeds i.roles (inside_questions i) i.ledgers.items i.actors.items sw c.args.p m j place)) c.act-done.ensures.err
 
-pub invariant_of-self : goal.invariant_of-self
-invariant_of-self c =
-    let o = (goal.at.invariant_of-self c).After-is_err-self-inside in
+pub invariant_of-self-2 : goal.invariant_of-self-2
+invariant_of-self-2 c =
+    let o = (goal.at.invariant_of-self-2 c).After-is_err-self-inside in
     let i = c.self.inside in
     let xs = i.actors.items in
     let m = c.in-Conforming.machine in
     let new = c.act-done.new.machine in
+    let now = c.act-done.new.journal in
     let here = place o in
     let good = c.self.invariant.good (goes_on o) in
     record {
       ready = c.self.invariant.ready;
       ledgers = subst (λ d. AreArcLedgers d c.act-done.new.ledgers.items) here.is.1 c.act-done.ensures.ledgers;
-      actors = actor_set i.deal i.conforming i.seeds i.roles xs c.args.p (Conforming new) c.self.invariant.actors here.below
+      actors = actor_set i.deal i.conforming i.seeds i.roles xs c.args.p (Conforming new now) c.self.invariant.actors here.below
           (owned i.deal (slice_index_or i.conforming c.args.p false) (slice_index_or i.seeds c.args.p None) (slice_index_or i.roles c.args.p kinds.Manual)
-          c.args.p m new c.act-done.ensures.owner here.is);
+          c.args.p m new (j o) now c.act-done.ensures.owner here.is);
       askers = c.self.invariant.askers;
       told = c.self.invariant.told;
       good =
@@ -130,14 +128,14 @@ invariant_of-self c =
           λ on. room_unless c.act-done.result c.is_err-self-inside.result c.act-done.new.ledgers.items c.is_err-self-inside.ensures.value on
           c.act-done.ensures.room;
       journals =
-          λ on. journals_act i.deal xs i.journals.items c.args.p new c.act-done.new.journal (c.self.invariant.journals (goes_on o)) here.below
-          (journal_unless c.act-done.result c.is_err-self-inside.result c.is_err-self-inside.ensures.value on
-          (subst (λ (x : Deal × ℕ). OnOk c.act-done.result (IsMachineJournal x.0 x.1 new.signed c.act-done.new.journal)) (λ j. (here.is.1 j, here.is.2 j))
+          λ on. each_set (IsJournaled i.deal) xs c.args.p (Conforming new now) (c.self.invariant.journals (goes_on o)) here.below
+          (ok_unless c.act-done.result c.is_err-self-inside.result c.is_err-self-inside.ensures.value on
+          (subst (λ (x : Deal × ℕ). OnOk c.act-done.result (IsMachineJournal x.0 x.1 new.signed now)) (λ t. (here.is.1 t, here.is.2 t))
           c.act-done.ensures.journal));
       disks =
           λ on. err_unless c.act-done.result c.is_err-self-inside.result c.is_err-self-inside.ensures.value on
-          (stopped_disks i.deal i.conforming i.seeds i.roles (inside_questions i) i.ledgers.items xs i.journals.items (sw o) c.args.p m new (b o)
-          c.act-done.new.journal here c.self.invariant.actors c.self.invariant.ready (known o) good (c.self.invariant.journals (goes_on o))
+          (stopped_disks i.deal i.conforming i.seeds i.roles (inside_questions i) i.ledgers.items xs (sw o) c.args.p m new (b o) (j o) now here
+          c.self.invariant.actors c.self.invariant.ready (known o) good (c.self.invariant.journals (goes_on o))
           c.act-done.result c.act-done.ensures.between c.act-done.ensures.made);
       kept =
           kept_on c.act-done.result (sw o) (inside_cast i) (inside_run_state i) (after o) (Act c.args.p) (done o) (cut o) c.self.invariant.ready (known o) good;
@@ -157,8 +155,13 @@ returns-clause-told c =
     let i = c.self.inside in
     rw (← c.self.view_is)
     (if_told c.act-done.result
-    (λ t e. e ∙ acted_told i.deal i.conforming i.seeds i.roles (inside_questions i) i.ledgers.items i.actors.items (sw o) c.args.p c.in-Conforming.machine (place o))
+    (λ t e. e ∙ acted_told i.deal i.conforming i.seeds i.roles (inside_questions i) i.ledgers.items i.actors.items (sw o) c.args.p (m o) (j o) (place o))
     c.act-done.ensures.told)
 
-pub returns-clause-book : goal.returns-clause-book
-returns-clause-book c = rw (← c.self.view_is) (cut (goal.at.returns-clause-book c).After-is_err-self-inside)
+pub returns-clause-cut : goal.returns-clause-cut
+returns-clause-cut c =
+    let o = (goal.at.returns-clause-cut c).After-is_err-self-inside in
+    let i = c.self.inside in
+    rw (← c.self.view_is)
+    (cut_at c.act-done.result i.deal i.conforming i.seeds i.roles i.answers.items i.stopped c.is_err-self-inside.result (inside_run_state i) _ (after o)
+    c.is_err-self-inside.ensures.value refl (cut o))
