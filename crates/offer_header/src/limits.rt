@@ -469,10 +469,16 @@ struct Bounds {
     bound: u32,
 }
 
-/// The digests of a header.
+/// The lists of a header, within their limits.
 #[derive(Drop)]
-struct Digests {
+struct Lists {
+    /// For each party how it acts, and its seed.
+    parties: Listed<Acting>,
+    /// For each arc its units and its timelock.
+    terms: Listed<ArcTerms>,
+    /// A hashlock for each leader.
     hashlocks: Listed<Digest>,
+    /// For each party a key for each lock; with timelocks none.
     keys: Listed<Listed<Digest>>,
 }
 
@@ -483,17 +489,15 @@ fn assemble_header(
     raw: &RawHeader<'_>,
     numbered: Numbered,
     bounds: Bounds,
-    parties: Listed<Acting>,
-    terms: Listed<ArcTerms>,
-    digests: Digests,
+    lists: Lists,
 ) -> Result<Header, NoMemory>
     requires ends { AreEnds 256 numbered.arcs }
     requires leaders { AreLeaders 256 numbered.leaders }
-    ensures { IfOk result (λ h. h ≡ assemble_header purpose raw.now numbered bounds.start bounds.delta bounds.bound parties terms
-        digests.hashlocks digests.keys) }
+    ensures { IfOk result (λ h. h ≡ assemble_header purpose raw.now numbered bounds.start bounds.delta bounds.bound lists.parties lists.terms
+        lists.hashlocks lists.keys) }
 {
-    let acted = collect_acted(alloc, parties)?;
-    let priced = priced_terms(alloc, terms.as_slice())?;
+    let acted = collect_acted(alloc, lists.parties)?;
+    let priced = priced_terms(alloc, lists.terms.as_slice())?;
     let arcs = collect_arc_ends(alloc, numbered.arcs.as_slice())?;
     let leaders = number_leaders(alloc, numbered.leaders.as_slice())?;
     Ok(Header {
@@ -511,8 +515,8 @@ fn assemble_header(
         amounts: priced.amounts,
         timelocks: priced.timelocks,
         leaders,
-        hashlocks: digests.hashlocks,
-        keys: digests.keys,
+        hashlocks: lists.hashlocks,
+        keys: lists.keys,
         finish: raw.finish,
     })
 }
@@ -533,21 +537,14 @@ fn check_parts(
     let plain = is_plain(purpose);
     let names = numbered.names.as_slice();
     let sizes = header_sizes(raw);
-    let parties = read_parties(
-        alloc,
-        raw.version,
-        sizes,
-        names,
-        line,
-        raw.parties.as_slice(),
-    )?;
-    let terms = limited_terms(alloc, raw.version, line, raw.arcs.as_slice())?;
-    let hashlocks = parse_hashlocks(alloc, plain, line, raw.leaders.as_slice())?;
-    let keys = read_keys(alloc, plain, line, raw)?;
-    let digests = Digests { hashlocks, keys };
-    Ok(assemble_header(
-        alloc, purpose, raw, numbered, bounds, parties, terms, digests,
-    )?)
+    let parties = raw.parties.as_slice();
+    let lists = Lists {
+        parties: read_parties(alloc, raw.version, sizes, names, line, parties)?,
+        terms: limited_terms(alloc, raw.version, line, raw.arcs.as_slice())?,
+        hashlocks: parse_hashlocks(alloc, plain, line, raw.leaders.as_slice())?,
+        keys: read_keys(alloc, plain, line, raw)?,
+    };
+    Ok(assemble_header(alloc, purpose, raw, numbered, bounds, lists)?)
 }
 
 /// The header within its limits, or the first reason why a number, a list or a text is refused.

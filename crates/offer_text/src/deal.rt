@@ -32,22 +32,24 @@ fn put_origin(
 fn put_arc(
     alloc: Global,
     fields: &mut Map<String, Value>,
-    mode: Mode,
     names: &[ByteText],
-    arc: ArcEnds,
-    amount: u64,
-    timelock: u32,
+    deal: &Deal,
+    arc: ArcId,
 ) -> Result<(), NoMemory>
     requires none { members_view fields.old.entries ≡ no_members }
-    requires from { arc.from < length names.now }
-    requires to { arc.to < length names.now }
+    requires sized { IsWellSized deal.now }
+    requires arc { arc < length deal.now.graph.arcs }
+    requires names { length names.now ≡ deal.now.graph.n }
     requires texts { AreTexts names.now }
-    ensures { OnOk result (object (members_view fields.new.entries) ≡ arc_data mode names.now arc amount timelock) }
+    ensures { OnOk result (object (members_view fields.new.entries) ≡ arc_json names.now deal.now arc) }
 {
-    let from = party_label(names, arc.from);
-    put_text(alloc, fields, "to", party_label(names, arc.to))?;
-    match mode {
+    let ends = deal.graph.arcs()[arc as usize];
+    let amount = deal.amounts.as_slice()[arc as usize];
+    let from = party_label(names, ends.from);
+    put_text(alloc, fields, "to", party_label(names, ends.to))?;
+    match deal.mode {
         Mode::Timelocks => {
+            let timelock = deal.timelocks.as_slice()[arc as usize];
             put_number(alloc, fields, "timelock", timelock as u64)?;
             put_origin(alloc, fields, from, amount)
         }
@@ -62,11 +64,8 @@ fn arc_json(alloc: Global, names: &[ByteText], deal: &Deal, arc: ArcId) -> Resul
     requires texts { AreTexts names.now }
     ensures { IfOk result (λ v. view v ≡ arc_json names.now deal.now arc) }
 {
-    let ends = deal.graph.arcs()[arc as usize];
-    let amount = deal.amounts.as_slice()[arc as usize];
-    let timelock = deal.timelocks.as_slice()[arc as usize];
     let mut fields = Map::new(alloc);
-    put_arc(alloc, &mut fields, deal.mode, names, ends, amount, timelock)?;
+    put_arc(alloc, &mut fields, names, deal, arc)?;
     Ok(Value::Object(fields))
 }
 

@@ -3,7 +3,7 @@
 ghost use Rattle.std.specs.Prelude.{◌≡◌, ◌<◌, ℕ, List, IfOk, OnOk, All, codes, length};
 ghost use Rattle.serde_json.specs.Data.{member, no_members, object, string};
 ghost use Rattle.serde_json.specs.View.{view, members_view};
-ghost use Rattle.swap_job.specs.declared.moves.Move.TheVariants.{Craft as crafts, Replay as replays, Raw as presents};
+ghost use Rattle.swap_job.specs.declared.moves.Move.TheVariants.{Replay as replays, Raw as presents};
 ghost use Rattle.swap_job.specs.declared.moves.Move.TheVariants.{Transfer as transfers, Wait as waits};
 ghost use Rattle.offer_text.specs.Words.{digest_data, list_data, name_data, number_data, with_optional, AreTexts, IsBelow};
 ghost use Rattle.offer_text.specs.Moves.{move_data, signature_data, AreBelow, BoundedNames};
@@ -54,25 +54,20 @@ fn put_lock(
     }
 }
 
-#[tactic(auto, unfolding(crate::specs::Moves::move_data))]
-fn put_craft(
+/// The parties that make a craft's hashkey.
+fn put_via(
     alloc: Global,
     fields: &mut Map<String, Value>,
     names: &[ByteText],
-    arc: ArcId,
-    lock: LockId,
     via: &[PartyId],
-    onto: Option<ArcId>,
 ) -> Result<(), NoMemory>
     requires none { members_view fields.old.entries ≡ no_members }
     requires texts { AreTexts names.now }
     requires known { AreBelow (length names.now) via.now }
-    ensures { OnOk result (object (members_view fields.new.entries) ≡ move_data names.now (crafts arc lock via.now onto)) }
+    ensures { OnOk result (members_view fields.new.entries ≡ member (codes "via") (list_data (name_data names.now) via.now) no_members) }
 {
     let via = names_value(alloc, names, via)?;
-    put_first(alloc, fields, "via", via)?;
-    put_lock(alloc, fields, lock, onto)?;
-    put_head(alloc, fields, "craft", arc)
+    put_first(alloc, fields, "via", via)
 }
 
 #[tactic(auto, unfolding(crate::specs::Moves::move_data))]
@@ -193,7 +188,11 @@ fn put_move(
             lock,
             via,
             onto,
-        } => put_craft(alloc, fields, names, *arc, *lock, via.as_slice(), *onto),
+        } => {
+            put_via(alloc, fields, names, via.as_slice())?;
+            put_lock(alloc, fields, *lock, *onto)?;
+            put_head(alloc, fields, "craft", *arc)
+        }
         Move::Replay { arc, lock, onto } => put_replay(alloc, fields, *arc, *lock, *onto),
         Move::Raw { arc, key } => put_raw(alloc, fields, names, *arc, key),
         Move::Claim { arc } => put_head(alloc, fields, "claim", *arc),

@@ -5,17 +5,16 @@ use Rattle.std.specs.List.{range_with_len}
 use Rattle.std.proofs.lemmas.List.{length-map, length-replicate, get_or-replicate}
 use Rattle.std.proofs.lemmas.List.FromFn.{length-range_with_len, length-map-range_with_len, get_or-map-range_with_len}
 use Rattle.time_bounds.specs.Times as times
-use Rattle.swap_digraph.specs.Graph.{ends, arcs, IsDist, IsFeedback, IsHeight}
+use Rattle.swap_digraph.specs.Graph.{arcs, IsDist, IsFeedback, IsHeight}
 use Rattle.swap_digraph.specs.Deal.{counterparty, lock_leader, locks, HasKeys, IsWellSized}
 use Rattle.swap_digraph.specs.declared.deal.Deal.{Deal}
 use Rattle.swap_digraph.specs.declared.deal.Mode.{Mode}
 use Rattle.swap_digraph.specs.declared.deal.Mode.TheVariants.{Timelocks, Hashkeys}
-use Rattle.swap_digraph.specs.declared.deal.Version.{Version}
-use Rattle.swap_digraph.specs.declared.deal.Version.TheVariants.{One, Two}
 use Rattle.leader_check.specs.Distance.{leader_distance}
 use Rattle.leader_check.proofs.Far.{dist_is, dist_bounded, dist_by_rounds}
 use Rattle.hashkey_path.proofs.Feeding.{any_id}
-use Rattle.swap_rules.specs.Accepted.{IsAccepted, IsOfVersion, IsTimed}
+use Rattle.swap_rules.specs.Accepted.{IsAccepted, IsTimed}
+use Rattle.proposed_deal.proofs.Proposals.{is_accepted}
 use Rattle.proposed_deal.specs.Proposed.{HasModeLeaders, IsProposed}
 use Rattle.swap_gen.specs.Made.{seed_hashlock, seed_keys, all_keys, arc_timelock, all_timelocks, seed_filled_deal, made_deal}
 
@@ -124,10 +123,6 @@ sized_with seeds d hs ks ts k eh ek et =
 
 -- Acceptance.
 
-version_kept : (v : Version) (d e : Deal) → e.graph ≡ d.graph → e.mode ≡ d.mode → IsOfVersion v d → IsOfVersion v e
-version_kept One d e g m h = subst (λ x. (a b : ℕ) → a < length x.arcs → b < length x.arcs → ends x a ≡ ends x b → a ≡ b) (sym g) h
-version_kept Two d e g m h = m ∙ h
-
 timed_by : (m : Mode) (seeds : List (Option (List ℕ))) (d : Deal) (e : Deal) → IsProposed d → HasModeLeaders m d → e ≡ made_deal seeds d
     → e.timelocks ≡ all_timelocks m d → IsTimed m e
 unfolding made_deal
@@ -145,30 +140,10 @@ timed_by Hashkeys seeds d e k one s t = λ a lt. ap (λ (ts : List ℕ). slice_i
 pub made_is_accepted : (seeds : List (Option (List ℕ))) (d : Deal) → IsProposed d → IsAccepted (made_deal seeds d)
 unfolding made_deal
 made_is_accepted seeds d k =
+    let e = made_deal seeds d in
     let sized = filled_is_sized seeds d k in
-    record {
-      parties = k.parties;
-      arcs = k.arcs;
-      ends = k.ends;
-      of_version = version_kept d.version d (made_deal seeds d) refl refl k.of_version;
-      strong = k.strong;
-      leaders = k.leaders;
-      leader = k.leader;
-      apart = k.apart;
-      feedback = k.feedback;
-      height = k.height;
-      is_height = k.is_height;
-      delta = k.delta;
-      start = k.start;
-      bound = k.bound;
-      one_amount_each = k.one_amount_each;
-      amounts = k.amounts;
-      hashlocks = sized.hashlocks;
-      keys = keys_sized d.mode seeds d (made_deal seeds d) refl refl refl;
-      one_timelock_each = sized.timelocks;
-      timed = timed_by d.mode seeds d (made_deal seeds d) k k.led refl refl;
-      id = sym (any_id (seed_filled_deal seeds d) (made_deal seeds d).id);
-    }
+    is_accepted d e.hashlocks e.keys e.timelocks e.id k sized.hashlocks (keys_sized d.mode seeds d e refl refl refl) sized.timelocks
+    (timed_by d.mode seeds d e k k.led refl refl) (sym (any_id (seed_filled_deal seeds d) e.id))
 
 pub made_accepted : (seeds : List (Option (List ℕ))) (d e : Deal) → IsProposed d → e ≡ made_deal seeds d → IsAccepted e
 made_accepted seeds d e k is = subst IsAccepted (sym is) (made_is_accepted seeds d k)

@@ -40,6 +40,13 @@ plain_has_seeds seed n p lt = some_seed seed n p (subst (λ (g : Graph). p < g.n
 pub generated_is_owned : (seed n : ℕ) → (p : ℕ) → p < (generated seed n).deal.graph.n → OwnsKeys (generated seed n) p
 generated_is_owned seed n p lt = made_is_owned (plain_job seed n) (plain_has_seeds seed n) p lt
 
+-- the same of the job that a generator holds
+pub held_is_accepted : (g : Inside) → GeneratorHolds g → IsAccepted g.job.deal
+held_is_accepted g k = subst (λ (j : Job). IsAccepted j.deal) (sym k.job) (generated_is_accepted g.draws.seed g.job.deal.graph.n k.parties.0 k.parties.1)
+
+pub held_is_owned : (g : Inside) → GeneratorHolds g → (p : ℕ) → p < g.job.deal.graph.n → OwnsKeys g.job p
+held_is_owned g k = subst (λ (j : Job). (p : ℕ) → p < j.deal.graph.n → OwnsKeys j p) (sym k.job) (generated_is_owned g.draws.seed g.job.deal.graph.n)
+
 pub generated_steps : (seed n k : ℕ) → 2 ≤ n → IsJobEvent (generated seed n) (drawn_event seed (drawn_graph seed n) k).0
 generated_steps seed n k many =
     let job = generated seed n in event_steps job.deal job.conforming job.seeds seed n many (generated_graph seed n) k

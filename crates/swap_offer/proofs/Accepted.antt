@@ -213,7 +213,8 @@ accepted : (h : Header) (g : Graph) → IsHeaderInLimits h → HasEnds g → g.n
 accepted h g k has n arcs made p stated =
     let sized = is_sized h g (header_deal h g).id k has n arcs in
     let t : arcs_timed h g h.mode h.leaders ≡ Ok p.timed.0 = subst (λ (b : Bool). timed_unless b h g ≡ Ok p.timed.0) stated p.timed.1 in
-    proposals.is_accepted (header_deal h g) (proposed h g k has n arcs made p) sized.hashlocks sized.keys sized.timelocks
+    let d = header_deal h g in
+    proposals.is_accepted d d.hashlocks d.keys d.timelocks d.id (proposed h g k has n arcs made p) sized.hashlocks sized.keys sized.timelocks
     (is_timed h.mode h g (header_deal h g).id p.one.0 p.timed.0 refl k n arcs has p.strong p.feedback p.one.1 t)
     (sym (any_id (unnamed h g (replicate 32 0)) (header_deal h g).id))
 

@@ -1,11 +1,11 @@
 -- What makes a header's deal an accepted one, check by check in the order of the reasons.
-use Rattle.std.specs.Prelude.{ℕ, ◌==◌, Bool, true, false, nat_lt, List, [], ◌∷◌, length, slice_index, replicate, Option, Some, None, Result, Ok, Err}
+use Rattle.std.specs.Prelude.{◌≡◌, ℕ, ◌==◌, Bool, true, false, nat_lt, List, [], ◌∷◌, length, slice_index, replicate, Option, Some, None, Result, Ok, Err}
 use Rattle.std.specs.Prelude.{if◌then◌else◌}
 use Rattle.swap_base.specs.Fault.{◌>>=◌}
 use Rattle.swap_base.specs.Lists.{first_given_answer}
 use Rattle.time_bounds.specs.Times.{need, timelock}
 use Rattle.leader_check.specs.Distance.{leader_distance}
-use Rattle.swap_digraph.specs.Graph.{arcs, ends}
+use Rattle.swap_digraph.specs.Graph.{HasEnds, IsFeedback, IsHeight, IsStronglyConnected, arcs, ends}
 use Rattle.swap_digraph.specs.Value.{Graph}
 use Rattle.swap_digraph.specs.Arcs.{build_digraph}
 use Rattle.swap_digraph.specs.declared.fault.ArcFault.{ArcFault}
@@ -24,6 +24,7 @@ use Rattle.refusals.specs.declared.reason.Reason.TheVariants.{SelfArc, Parallel,
 use Rattle.refusals.specs.declared.reason.Reason.TheVariants.{WrongTimelock}
 use Rattle.swap_rules.specs.Accepted.{IsAccepted}
 use Rattle.proposed_deal.specs.Proposed.{IsProposed}
+use Rattle.offer_header.specs.Header.{IsHeaderInLimits}
 use Rattle.offer_header.specs.Raw.{is_plain}
 use Rattle.offer_header.specs.declared.header.Header.{Header}
 
@@ -160,3 +161,17 @@ IsAcceptedUnless false d = IsAccepted d
 -- a deal is accepted; that of a plain job is proposed, and lacks what its parties' seeds give
 abbrev pub IsAcceptedOrProposed : Purpose → Deal → Type 0
 IsAcceptedOrProposed purpose d = IsAcceptedUnless (is_plain purpose) d
+
+-- A header within its limits, and the digraph of its parties and arcs.
+pub record IsHeaderGraph (h : Header) (g : Graph) : Type 0 where
+  pub within : IsHeaderInLimits h
+  pub arcs : g.arcs ≡ h.arcs
+  pub parties : g.n ≡ length h.names
+  pub ends : HasEnds g
+
+-- It is strongly connected, and the header's leaders are a feedback vertex set of that height.
+pub record IsLedGraph (h : Header) (g : Graph) (height : ℕ) : Type 0 where
+  pub of_header : IsHeaderGraph h g
+  pub strong : IsStronglyConnected g
+  pub feedback : IsFeedback g h.leaders
+  pub highest : IsHeight g h.leaders height

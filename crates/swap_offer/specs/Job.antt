@@ -1,8 +1,9 @@
 -- What the bytes of an offer are: a job with its events, or the first reason against them.
-use Rattle.std.specs.Prelude.{◌≡◌, ◌==◌, ℕ, ◌+◌, List, [], ◌∷◌, Bool, true, false, codes, length, map, Result, Ok, Err, if◌then◌else◌}
+use Rattle.std.specs.Prelude.{◌≡◌, ◌==◌, All, ℕ, ◌+◌, List, [], ◌∷◌, Bool, true, false, codes, length, map, Result, Ok, Err, if◌then◌else◌}
 use Rattle.swap_base.specs.Fault.{◌>>=◌, steps}
 use Rattle.swap_digraph.specs.Deal.{IsWellSized}
 use Rattle.swap_job.specs.Roles.{is_conforming}
+use Rattle.swap_job.specs.Step.{IsJobEvent}
 use Rattle.swap_job.specs.declared.job.Purpose.{Purpose}
 use Rattle.swap_job.specs.declared.job.Job.{Job}
 use Rattle.swap_job.specs.declared.event.Event.{Event}
@@ -10,11 +11,13 @@ use Rattle.refusals.specs.declared.reason.Reason.{Reason}
 use Rattle.refusals.specs.declared.reason.Reason.TheVariants.{NotJson, OverLimit}
 use Rattle.offer_header.specs.Raw.{is_plain}
 use Rattle.offer_header.specs.Header.{parse_whole_header}
-use Rattle.offer_events.specs.Event.{parse_event}
+use Rattle.offer_header.specs.Limits.{HoldsEach}
+use Rattle.offer_header.specs.Names.{AreNames}
+use Rattle.offer_events.specs.Event.{needs_seeds, parse_event}
 use Rattle.command_input.specs.Lines.{collect_lines, filled_lines}
 use Rattle.offer_header.specs.declared.header.Header.{Header}
-use Rattle.swap_offer.specs.Checks.{admitted, assemble_job}
-use Rattle.swap_offer.specs.Wallets.{seeded, walleted}
+use Rattle.swap_offer.specs.Checks.{IsAcceptedOrProposed, admitted, assemble_job}
+use Rattle.swap_offer.specs.Wallets.{AreSimpleRoles, HaveRequiredScripts, HaveRequiredSeeds, HaveRequiredWallets, IsUntoldJob, seeded, walleted}
 
 -- a job has the seeds that it needs
 unfoldable pub provided : Job → Result (Unit {0}) Reason
@@ -90,3 +93,17 @@ pub record IsWholeJob (job : Job) : Type 0 where
   pub roles : length job.roles ≡ job.deal.graph.n
   pub acting : job.conforming ≡ map is_conforming job.roles
   pub seeds : length job.seeds ≡ job.deal.graph.n
+
+-- A job and its events, as an offer gives them for a purpose; `has` tells which strategies exist.
+pub record IsReadJob (has : List ℕ → Bool) (asked : Purpose) (job : Job) (events : List Event) : Type 0 where
+  pub whole : IsWholeJob job
+  pub accepted : IsAcceptedOrProposed asked job.deal
+  pub known : AreNames job.names
+  pub purpose : job.purpose ≡ asked
+  pub wallets : HaveRequiredWallets asked job
+  pub seeds : HaveRequiredSeeds asked job
+  pub roles : AreSimpleRoles asked job
+  pub strategies : HoldsEach has job.roles
+  pub scripts : HaveRequiredScripts asked job
+  pub untold : IsUntoldJob asked job
+  pub fit : needs_seeds asked ≡ true → All (IsJobEvent job) events

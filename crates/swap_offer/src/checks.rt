@@ -9,7 +9,7 @@ ghost use Rattle.leader_check.specs.Distance.{leader_distance};
 ghost use Rattle.offer_header.specs.Header.{IsHeaderInLimits};
 ghost use Rattle.offer_header.specs.Raw.{is_plain};
 ghost use Rattle.swap_offer.specs.Checks.{arc_reason, build_graph, connected, one_leader, led, least_bound, bounded, start_after_delta, wrong_timelock, arcs_timed};
-ghost use Rattle.swap_offer.specs.Checks.{timed_unless, checked_digraph};
+ghost use Rattle.swap_offer.specs.Checks.{timed_unless, checked_digraph, IsHeaderGraph, IsLedGraph};
 
 use digraph_check::{Strength, strong};
 use leader_check::{LeaderAnswer, Levels, dist, levels};
@@ -35,8 +35,7 @@ fn arc_reason(fault: ArcFault) -> Reason
 pub(crate) fn header_graph(alloc: Global, header: &Header) -> Result<Digraph, OfferFault>
     requires { IsHeaderInLimits header.now }
     ensures exact { Gives (λ g. g) result (build_graph header.now) }
-    ensures parts { IfOk result (λ g. (g.n ≡ length header.now.names) × (g.arcs ≡ header.now.arcs)) }
-    ensures ends { IfOk result (λ g. HasEnds g) }
+    ensures of_header { IfOk result (λ g. IsHeaderGraph header.now g) }
 {
     let arcs = header.arcs.copy()?.into_vec();
     match Digraph::new(alloc, header.names.len() as u8, arcs, header.version) {
@@ -122,9 +121,7 @@ fn wrong_timelock(
     dists: &[u32],
     arc: ArcId,
 ) -> Option<Reason>
-    requires within { IsHeaderInLimits header.now }
-    requires parts { graph.now.arcs ≡ header.now.arcs }
-    requires ends { HasEnds graph.now }
+    requires of_header { IsHeaderGraph header.now graph.now }
     requires arc { arc < length graph.now.arcs }
     requires parties { length dists.now ≡ graph.now.n }
     requires low { (v : ℕ) → v < graph.now.n → slice_index dists.now v ≤ 1000000 }
@@ -149,9 +146,7 @@ fn first_wrong_timelock(
     leader: PartyId,
     dists: &[u32],
 ) -> Option<Reason>
-    requires within { IsHeaderInLimits header.now }
-    requires parts { graph.now.arcs ≡ header.now.arcs }
-    requires ends { HasEnds graph.now }
+    requires of_header { IsHeaderGraph header.now graph.now }
     requires parties { length dists.now ≡ graph.now.n }
     requires low { (v : ℕ) → v < graph.now.n → slice_index dists.now v ≤ 1000000 }
     requires dists { (v : ℕ) → v < graph.now.n → slice_index dists.now v ≡ leader_distance graph.now leader v }
@@ -173,13 +168,7 @@ fn check_timelocks(
     graph: &Digraph,
     levels: &Levels,
 ) -> Result<(), OfferFault>
-    requires within { IsHeaderInLimits header.now }
-    requires parts { graph.now.arcs ≡ header.now.arcs }
-    requires parties { graph.now.n ≡ length header.now.names }
-    requires ends { HasEnds graph.now }
-    requires strong { IsStronglyConnected graph.now }
-    requires feedback { IsFeedback graph.now header.now.leaders }
-    requires height { IsHeight graph.now header.now.leaders levels.now.h }
+    requires led { IsLedGraph header.now graph.now levels.now.h }
     ensures { Gives (λ u. u) result (arcs_timed header.now graph.now header.now.mode header.now.leaders) }
 {
     match (header.mode, header.leaders.as_slice()) {
@@ -201,13 +190,7 @@ fn check_times(
     graph: &Digraph,
     levels: &Levels,
 ) -> Result<(), OfferFault>
-    requires within { IsHeaderInLimits header.now }
-    requires parts { graph.now.arcs ≡ header.now.arcs }
-    requires parties { graph.now.n ≡ length header.now.names }
-    requires ends { HasEnds graph.now }
-    requires strong { IsStronglyConnected graph.now }
-    requires feedback { IsFeedback graph.now header.now.leaders }
-    requires height { IsHeight graph.now header.now.leaders levels.now.h }
+    requires led { IsLedGraph header.now graph.now levels.now.h }
     ensures { Gives (λ u. u) result (timed_unless (is_plain header.now.purpose) header.now graph.now) }
 {
     if is_plain(header.purpose) {
@@ -224,10 +207,7 @@ pub(crate) fn check_header(
     header: &Header,
     graph: &Digraph,
 ) -> Result<u32, OfferFault>
-    requires within { IsHeaderInLimits header.now }
-    requires parts { graph.now.arcs ≡ header.now.arcs }
-    requires parties { graph.now.n ≡ length header.now.names }
-    requires ends { HasEnds graph.now }
+    requires of_header { IsHeaderGraph header.now graph.now }
     ensures exact { Gives (λ _. tt) result (checked_digraph header.now graph.now) }
     ensures need { IfOk result (λ n. n ≡ least_bound graph.now header.now.leaders) }
 {

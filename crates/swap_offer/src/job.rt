@@ -9,7 +9,7 @@ ghost use Rattle.offer_header.specs.Limits.{HoldsEach};
 ghost use Rattle.offer_header.specs.Names.{AreNames, has_strategy};
 ghost use Rattle.offer_header.specs.Raw.{is_plain};
 ghost use Rattle.swap_offer.specs.Checks.{IsAcceptedOrProposed};
-ghost use Rattle.swap_offer.specs.Job.{limited_event, counted, parse_events, parse_job_events, job_of_lines, parse_job, header_names, offer_line_names, names_of_offer, IsWholeJob};
+ghost use Rattle.swap_offer.specs.Job.{limited_event, counted, parse_events, parse_job_events, job_of_lines, parse_job, header_names, offer_line_names, names_of_offer, IsReadJob, IsWholeJob};
 ghost use Rattle.swap_offer.specs.Wallets.{AreSimpleRoles, HaveRequiredScripts, HaveRequiredSeeds, HaveRequiredWallets, IsUntoldJob};
 
 use crate::header::read_header;
@@ -17,9 +17,9 @@ use crate::prepared::Prepared;
 use command_input::filled_lines;
 use offer_events::read_event;
 use offer_header::is_plain;
-use refusals::{HeaderFault, OfferFault, Reason, Refusal, over_limit, with_names};
+use refusals::{HeaderFault, OfferFault, Reason, nameless, over_limit, with_names};
 use std::alloc::Global;
-use swap_base::{ByteText, Fault, Listed};
+use swap_base::{ByteText, Fault};
 use swap_job::{Event, Job, Purpose};
 
 /// The most events of an offer.
@@ -104,6 +104,13 @@ fn read_further(
     }
 }
 
+/// A job with all its events.
+#[derive(Drop)]
+struct Offer {
+    job: Job,
+    events: Vec<Event>,
+}
+
 /// The job of a header line and the events of the further lines.
 #[tactic(auto, using(refusals::proofs::Named::fails))]
 fn read_source(
@@ -113,25 +120,15 @@ fn read_source(
     line: u32,
     text: &[u8],
     further: &[(u32, &[u8])],
-) -> Result<(Job, Vec<Event>), HeaderFault>
+) -> Result<Offer, HeaderFault>
     requires few { length further.now < 2 ^ 31 }
-    ensures exact { Gives (λ j. (j.0, j.1.items)) result (named_result (header_names (has_strategy strategies.now) purpose line text.now)
+    ensures exact { Gives (λ o. (o.job, o.events.items)) result (named_result (header_names (has_strategy strategies.now) purpose line text.now)
         (job_of_lines (has_strategy strategies.now) purpose ((line, text.now) ∷ map (λ l. (l.0, l.1.now)) further.now))) }
-    ensures whole { IfOk result (λ j. IsWholeJob j.0) }
-    ensures accepted { IfOk result (λ j. IsAcceptedOrProposed purpose j.0.deal) }
-    ensures known { IfOk result (λ j. AreNames j.0.names) }
-    ensures purpose { IfOk result (λ j. j.0.purpose ≡ purpose) }
-    ensures wallets { IfOk result (λ j. HaveRequiredWallets purpose j.0) }
-    ensures seeds { IfOk result (λ j. HaveRequiredSeeds purpose j.0) }
-    ensures roles { IfOk result (λ j. AreSimpleRoles purpose j.0) }
-    ensures strategies { IfOk result (λ j. HoldsEach (has_strategy strategies.now) j.0.roles) }
-    ensures scripts { IfOk result (λ j. HaveRequiredScripts purpose j.0) }
-    ensures untold { IfOk result (λ j. IsUntoldJob purpose j.0) }
-    ensures fit { IfOk result (λ j. needs_seeds purpose ≡ true → All (IsJobEvent j.0) j.1.items) }
+    ensures read { IfOk result (λ o. IsReadJob (has_strategy strategies.now) purpose o.job o.events.items) }
 {
     let Prepared { job, .. } = read_header(alloc, line, text, purpose, strategies)?;
     match read_further(alloc, purpose, &job, further) {
-        Ok(events) => Ok((job, events)),
+        Ok(events) => Ok(Offer { job, events }),
         Err(fault) => Err(with_names(fault, job.names)),
     }
 }
@@ -141,27 +138,15 @@ fn read_lines(
     purpose: Purpose,
     strategies: &[ByteText],
     lines: &[(u32, &[u8])],
-) -> Result<(Job, Vec<Event>), HeaderFault>
+) -> Result<Offer, HeaderFault>
     requires few { length lines.now < 2 ^ 31 }
-    ensures exact { Gives (λ j. (j.0, j.1.items)) result (named_result
+    ensures exact { Gives (λ o. (o.job, o.events.items)) result (named_result
         (offer_line_names (has_strategy strategies.now) purpose (map (λ l. (l.0, l.1.now)) lines.now))
         (job_of_lines (has_strategy strategies.now) purpose (map (λ l. (l.0, l.1.now)) lines.now))) }
-    ensures whole { IfOk result (λ j. IsWholeJob j.0) }
-    ensures accepted { IfOk result (λ j. IsAcceptedOrProposed purpose j.0.deal) }
-    ensures known { IfOk result (λ j. AreNames j.0.names) }
-    ensures purpose { IfOk result (λ j. j.0.purpose ≡ purpose) }
-    ensures wallets { IfOk result (λ j. HaveRequiredWallets purpose j.0) }
-    ensures seeds { IfOk result (λ j. HaveRequiredSeeds purpose j.0) }
-    ensures roles { IfOk result (λ j. AreSimpleRoles purpose j.0) }
-    ensures strategies { IfOk result (λ j. HoldsEach (has_strategy strategies.now) j.0.roles) }
-    ensures scripts { IfOk result (λ j. HaveRequiredScripts purpose j.0) }
-    ensures untold { IfOk result (λ j. IsUntoldJob purpose j.0) }
-    ensures fit { IfOk result (λ j. needs_seeds purpose ≡ true → All (IsJobEvent j.0) j.1.items) }
+    ensures read { IfOk result (λ o. IsReadJob (has_strategy strategies.now) purpose o.job o.events.items) }
 {
     if lines.is_empty() {
-        let names = Listed::empty(alloc);
-        let reason = Reason::NotJson(1);
-        return Err(Fault::Refused(Refusal { reason, names }));
+        return Err(Fault::Refused(nameless(alloc, Reason::NotJson(1))));
     }
     let (line, text) = lines[0];
     read_source(alloc, purpose, strategies, line, text, &lines[1..])
@@ -192,5 +177,6 @@ pub fn read_job(
     ensures fit { IfOk result (λ j. needs_seeds purpose ≡ true → All (IsJobEvent j.0) j.1.items) }
 {
     let lines = filled_lines(alloc, bytes)?;
-    read_lines(alloc, purpose, strategies, &lines)
+    let Offer { job, events } = read_lines(alloc, purpose, strategies, &lines)?;
+    Ok((job, events))
 }
