@@ -10,6 +10,7 @@ ghost use Rattle.audit_command.specs.Says.{AuditSays};
 ghost use Rattle.transcript_reader.specs.Header.{IsTranscriptJob};
 
 use crate::judged::judge;
+use crate::status::written_status;
 use crate::story::read_story;
 use command_input::{Input, Status, unread};
 use ledger_core::Book;
@@ -17,7 +18,7 @@ use outcome_rules::Report;
 use report_text::write_report;
 use std::alloc::Global;
 use swap_base::Fault;
-use swap_io::{Sink, Source, TextFault};
+use swap_io::{Sink, Source};
 use swap_job::Job;
 
 /// Writes the report of a job's book.
@@ -33,17 +34,8 @@ fn write_audit_report<K: Sink>(
     ensures { StatusWrites (K.taken sink.old) (K.taken sink.new) (K.faults sink.old) (K.faults sink.new) (story_output (story job.now book.now.histories) report.now)
         result }
 {
-    match write_report(alloc, sink, job, book, report) {
-        Ok(()) => {
-            if report.findings.is_empty() {
-                Status::Done
-            } else {
-                Status::Named
-            }
-        }
-        Err(TextFault::WriteFault) => Status::WriteFault,
-        Err(TextFault::NoMemory) => Status::NoMemory,
-    }
+    let written = write_report(alloc, sink, job, book, report);
+    written_status(written, !report.findings.is_empty())
 }
 
 /// Audits a transcript. The source is read to its end before anything is written; the book that its

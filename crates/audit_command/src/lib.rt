@@ -9,6 +9,8 @@
 mod command;
 mod input;
 mod judged;
+mod status;
 mod story;
 
 pub use command::audit_transcript;
+pub use status::written_status;

@@ -13,14 +13,14 @@ use Rattle.read_back.proofs.HeaderShown.{header_reads}
 use Rattle.read_back.proofs.HeaderWhole.{header_is_read_back}
 use Rattle.transcript_lines.specs.Lines.{transcript, transcript_lines, IsWholeTranscript}
 use Rattle.transcript_book.proofs.Legal.{legal_is_stated}
-use Rattle.transcript_reader.specs.Header.{header_read}
+use Rattle.transcript_reader.specs.Header.{header_read, parse_deal_header}
 use Rattle.transcript_reader.specs.Laws.{header_job, job_or_none}
 use Rattle.transcript_reader.proofs.Back.{whole_text_is_read}
 use Rattle.audited_runs.specs.Transcripts.{RoundTrip}
 use Rattle.audited_runs.proofs.Typed.{legal_is_typed}
 
 header_gives : (job : Job) → IsShowable job → header_read (header_line job) ≡ Ok (audited_job job)
-unfolding header_read
+unfolding parse_deal_header
 header_gives job k =
     let line = header_reads job k in
     ap (λ (r : Result Job Reason). named_result (header_names no_strategy Audit 2 (header_line job)) r)

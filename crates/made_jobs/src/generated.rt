@@ -1,6 +1,6 @@
 //! The job that a number gives, as it is written.
 
-ghost use Rattle.std.specs.Prelude.{◌≡◌, ◌≤◌, ◌++◌, IfOk, OnOk, IsErrOf};
+ghost use Rattle.std.specs.Prelude.{◌≡◌, ◌≤◌, ◌++◌, [], IfOk, OnOk, IsErrOf};
 ghost use Rattle.std.specs.Io.KnownBytes.{Appends};
 ghost use Rattle.swap_base.specs.Text.{lines};
 ghost use Rattle.swap_io.specs.Causes.{AppendsProperPrefix, Rose};
@@ -38,7 +38,8 @@ fn begin(alloc: Global, out: &mut Vec<u8>, seed: u32, parties: u8) -> Result<Beg
     Ok(Begun { generator, names })
 }
 
-/// Draws the given number of events, and hands on the line of each.
+/// Draws the given number of events, and hands on the line of each, so that nothing waits after
+/// them.
 fn write_events<K: Sink>(
     sink: &mut K,
     out: &mut Vec<u8>,
@@ -47,18 +48,19 @@ fn write_events<K: Sink>(
     events: u32,
 ) -> Result<(), TextFault>
     requires { HasDrawnEvents generator.old.seed generator.old.parties events 0 generator.old }
-    ensures { Hands (K.taken sink.old) (K.taken sink.new) (K.faults sink.old) (K.faults sink.new) out.old.items out.new.items
+    ensures hands { Hands (K.taken sink.old) (K.taken sink.new) (K.faults sink.old) (K.faults sink.new) out.old.items out.new.items
         (lines (λ _. event_line names.now) 0 (generated_events generator.old.seed generator.old.parties events)) result }
+    ensures none { OnOk result (out.new.items ≡ []) }
 {
     'events: for _e in 0..events {
         let event = generator.next_event();
         put_event(out, names, &event)?;
         flush_waiting(sink, out)?;
     }
-    Ok(())
+    flush(sink, out)
 }
 
-/// The lines of a job, handed on but for what waits.
+/// The lines of a job, handed on so that nothing waits after them.
 fn write_lines<K: Sink>(
     alloc: Global,
     sink: &mut K,
@@ -69,8 +71,9 @@ fn write_lines<K: Sink>(
 ) -> Result<(), TextFault>
     requires low { 2 ≤ parties }
     requires high { parties ≤ 24 }
-    ensures { Hands (K.taken sink.old) (K.taken sink.new) (K.faults sink.old) (K.faults sink.new) out.old.items out.new.items
+    ensures hands { Hands (K.taken sink.old) (K.taken sink.new) (K.faults sink.old) (K.faults sink.new) out.old.items out.new.items
         (generated_text seed parties events) result }
+    ensures none { OnOk result (out.new.items ≡ []) }
 {
     let Begun {
         mut generator,
@@ -99,6 +102,5 @@ pub fn write_generated<K: Sink>(
     ensures failed { IsErrOf result TextFault.WriteFault → Rose (K.faults sink.old) (K.faults sink.new) }
 {
     let mut out = Vec::new(alloc);
-    write_lines(alloc, sink, &mut out, seed, parties, events)?;
-    flush(sink, &mut out)
+    write_lines(alloc, sink, &mut out, seed, parties, events)
 }

@@ -21,6 +21,7 @@ use Rattle.many_lines.specs.Fields.{history_accounts, parse_chain_list, parse_fi
 use Rattle.many_lines.specs.declared.accounts.ChainAccounts.{ChainAccounts}
 use Rattle.many_lines.specs.declared.many_job.ManyJob.{ManyJob}
 use Rattle.many_lines.specs.declared.stage.Stage.{Stage}
+use Rattle.many_lines.specs.declared.stage.SwapLine.{SwapLine}
 use Rattle.many_lines.specs.declared.stage.Stage.TheVariants.{First, Words, Header, Over}
 
 -- the line isn't of the form that stands next; the reason speaks of no party
@@ -85,7 +86,7 @@ chain_taken h line ws =
 unfoldable pub swap_taken : HeadingState → ℕ → List (List ℕ) → Result HeadingState Refusal
 swap_taken h line ws =
     if nat_lt (length h.many.jobs) 8 then
-    (by_fields line (parse_chain_list (length h.many.names) ws) >>= λ chains. Ok (record { many = h.many; stage = Header line chains }))
+    (by_fields line (parse_chain_list (length h.many.names) ws) >>= λ chains. Ok (record { many = h.many; stage = Header (record { number = line; chains = chains }) }))
     else bad line
 
 -- the finish, after at least one swap
@@ -127,14 +128,15 @@ with_swap many job chains = record {
 }
 
 -- the header of a swap, whose line before it names a chain for each arc
-unfoldable pub header_taken : (List ℕ → Bool) → ManyJob → ℕ → List ℕ → ℕ → List ℕ → Result HeadingState Refusal
-header_taken has many before chains line text =
-    swap_job has line text >>= λ job. if length chains == length job.deal.graph.arcs then Ok (with_swap many job chains) else bad before
+unfoldable pub header_taken : (List ℕ → Bool) → ManyJob → SwapLine → ℕ → List ℕ → Result HeadingState Refusal
+header_taken has many before line text =
+    swap_job has line text >>= λ job. if length before.chains == length job.deal.graph.arcs then Ok (with_swap many job before.chains)
+    else bad before.number
 
 abbrev pub stage_line_taken : (List ℕ → Bool) → Stage → HeadingState → ℕ → List ℕ → Result HeadingState Refusal
 stage_line_taken has First h line text = first_taken h line text
 stage_line_taken has Words h line text = fields_taken h line (separated_parts 32 text)
-stage_line_taken has (Header before chains) h line text = header_taken has h.many before chains line text
+stage_line_taken has (Header before) h line text = header_taken has h.many before line text
 stage_line_taken has (Over finish) h line text = bad line
 
 -- what the next line makes of it

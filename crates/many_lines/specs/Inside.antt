@@ -1,11 +1,12 @@
 -- What a reader of the lines before the events keeps.
-use Rattle.std.specs.Prelude.{◌≡◌, ◌≤◌, ◌<◌, ℕ, true, List, is_some, length, map, vec_capacity}
+use Rattle.std.specs.Prelude.{◌≡◌, ◌≤◌, ◌<◌, ℕ, true, is_some, length, map, vec_capacity}
 use Rattle.swap_job.specs.declared.job.Purpose.TheVariants.{Run}
 use Rattle.swap_offer.specs.Wallets.{prepared_wallets}
 use Rattle.many_lines.specs.Below.{AreChainsBelow}
 use Rattle.many_lines.specs.declared.heading.Heading.TheInside.{Inside}
 use Rattle.many_lines.specs.declared.many_job.ManyJob.{ManyJob}
 use Rattle.many_lines.specs.declared.stage.Stage.TheVariants.{Header}
+use Rattle.many_lines.specs.declared.stage.SwapLine.{SwapLine}
 use Rattle.many_lines.specs.Heading.{HeadingState, finish_told}
 use Rattle.many_lines.specs.Whole.{AreBoundedChains, AreSwaps}
 
@@ -24,8 +25,8 @@ pub record IsReadingManyJob (h : Inside) : Type 0 where
   pub wallets_room : 8 ≤ vec_capacity h.wallets
   pub chains : AreBoundedChains (inside_many_job h)
   pub swaps : AreSwaps (inside_many_job h)
-  pub next : (before : ℕ) (chains : List ℕ) → h.stage ≡ Header before chains → length h.jobs.items < 8
-  pub below : (before : ℕ) (chains : List ℕ) → h.stage ≡ Header before chains → AreChainsBelow (length h.names.items) chains
+  pub next : (before : SwapLine) → h.stage ≡ Header before → length h.jobs.items < 8
+  pub below : (before : SwapLine) → h.stage ≡ Header before → AreChainsBelow (length h.names.items) before.chains
   pub some : is_some (finish_told h.stage) ≡ true → 1 ≤ length h.jobs.items
   pub each_wallets : length h.wallets.items ≡ length h.jobs.items
   pub wallets : map (λ v. v.items) h.wallets.items ≡ map (prepared_wallets Run) h.jobs.items

@@ -13,7 +13,7 @@ ghost use Rattle.swap_offer.specs.Wallets.{prepared_wallets};
 use crate::fault::{bad, by_field};
 use crate::many_job::ManyJob;
 use crate::said::{collect_accounts, parse_chains, parse_finish};
-use crate::stage::Stage;
+use crate::stage::{Stage, SwapLine};
 use crate::swap::read_swap;
 use party_wallet::Wallet;
 use refusals::HeaderFault;
@@ -118,7 +118,10 @@ impl Heading {
             return Err(bad(alloc, line));
         }
         let chains = parse_chains(alloc, line, self.names.len(), fields)?;
-        self.stage = Stage::Header(line, chains);
+        self.stage = Stage::Header(SwapLine {
+            number: line,
+            chains,
+        });
         Ok(())
     }
 
@@ -201,24 +204,23 @@ impl Heading {
         &mut self,
         alloc: Global,
         strategies: &[ByteText],
-        before: u32,
-        chains: Listed<u8>,
+        before: SwapLine,
         line: u32,
         text: &[u8],
     ) -> Result<(), HeaderFault>
         requires next { length self.old.many.jobs < 8 }
-        requires below { AreChainsBelow (length self.old.many.names) chains }
+        requires below { AreChainsBelow (length self.old.many.names) before.chains }
         requires words { self.old.stage ≡ Words }
         ensures exact { Gives (λ _. self.new) result
-            (header_taken (has_strategy strategies.now) self.old.many before chains line text.now) }
+            (header_taken (has_strategy strategies.now) self.old.many before line text.now) }
         ensures held { OnOk result (HoldsEverySwap (has_strategy strategies.now) self.old.many
             → HoldsEverySwap (has_strategy strategies.now) self.new.many) }
     {
         let swap = read_swap(alloc, strategies, line, text)?;
-        if chains.len() != swap.job.deal.graph.arcs().len() {
-            return Err(bad(alloc, before));
+        if before.chains.len() != swap.job.deal.graph.arcs().len() {
+            return Err(bad(alloc, before.number));
         }
-        self.keep(swap, chains);
+        self.keep(swap, before.chains);
         Ok(())
     }
 
@@ -239,9 +241,7 @@ impl Heading {
         match mem::replace(&mut self.stage, Stage::Words) {
             Stage::First => self.take_first(alloc, line, text),
             Stage::Words => self.take_fields(alloc, line, &mut Parts::new(b' ', text)),
-            Stage::Header(before, chains) => {
-                self.take_header(alloc, strategies, before, chains, line, text)
-            }
+            Stage::Header(before) => self.take_header(alloc, strategies, before, line, text),
             Stage::Over(_) => Err(bad(alloc, line)),
         }
     }

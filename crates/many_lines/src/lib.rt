@@ -23,4 +23,4 @@ pub use event::next_many;
 pub use heading::Heading;
 pub use many_job::ManyJob;
 pub use places::find_places;
-pub use stage::Stage;
+pub use stage::{Stage, SwapLine};

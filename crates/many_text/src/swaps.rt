@@ -4,19 +4,18 @@ ghost use Rattle.std.specs.Prelude.{◌≡◌, ◌+◌, ◌++◌, ◌<◌, ◌�
 ghost use Rattle.swap_base.specs.Text.{lines};
 ghost use Rattle.swap_digraph.specs.Deal.{IsWellSized};
 ghost use Rattle.ledger_core.specs.Book.{IsLegalBook};
-ghost use Rattle.report_text.specs.Report.{report as to_text};
 ghost use Rattle.outcome_rules.specs.Report.{build_report};
 ghost use Rattle.swap_io.specs.Handed.{Hands};
 ghost use Rattle.swap_many.specs.Value.{many_kept};
-ghost use Rattle.many_text.specs.ManyText.{swap_book, finding_count, kept_report, swap_line, swap_text, kept_swap_text};
+ghost use Rattle.many_text.specs.ManyText.{swap_book, finding_count, kept_report, swap_line, kept_swap_text};
 ghost use Rattle.many_text.specs.Shown.{AreShown, IsShownSwap};
 
 use ledger_core::Book;
 use outcome_rules::{Report, build_report};
-use report_text::write_report;
+use report_text::hand_report;
 use std::alloc::Global;
 use swap_base::{NoMemory, Piece, put};
-use swap_io::{Sink, TextFault, flush};
+use swap_io::{Sink, TextFault};
 use swap_job::Job;
 use swap_many::ManyWorld;
 
@@ -31,45 +30,6 @@ fn put_swap(out: &mut Vec<u8>, number: u64) -> Result<(), NoMemory>
             Piece::Text("\n"),
         ],
     )
-}
-
-/// The report of a swap, written behind what waits.
-fn hand_report<K: Sink>(
-    alloc: Global,
-    sink: &mut K,
-    out: &mut Vec<u8>,
-    job: &Job,
-    book: &Book,
-    report: &Report,
-) -> Result<(), TextFault>
-    requires sized { IsWellSized job.now.deal }
-    requires legal { IsLegalBook job.now.deal book.now.histories }
-    requires parties { length report.now.outcomes ≤ 256 }
-    ensures { Hands (K.taken sink.old) (K.taken sink.new) (K.faults sink.old) (K.faults sink.new) out.old.items out.new.items
-        (to_text job.now book.now.histories report.now) result }
-{
-    flush(sink, out)?;
-    write_report(alloc, sink, job, book, report)
-}
-
-/// The number of a swap and its report, handed on.
-fn write_swap<K: Sink>(
-    alloc: Global,
-    sink: &mut K,
-    out: &mut Vec<u8>,
-    number: u64,
-    job: &Job,
-    book: &Book,
-    report: &Report,
-) -> Result<(), TextFault>
-    requires sized { IsWellSized job.now.deal }
-    requires legal { IsLegalBook job.now.deal book.now.histories }
-    requires parties { length report.now.outcomes ≤ 256 }
-    ensures { Hands (K.taken sink.old) (K.taken sink.new) (K.faults sink.old) (K.faults sink.new) out.old.items out.new.items
-        (swap_text number job.now book.now.histories report.now) result }
-{
-    put_swap(out, number)?;
-    hand_report(alloc, sink, out, job, book, report)
 }
 
 /// The book of a swap, and its report.
@@ -109,8 +69,9 @@ fn write_numbered_swap<K: Sink>(
         (kept_swap_text (many_kept world.now) number job.now) result }
     ensures count { IfOk result (λ n. n ≡ length (kept_report (many_kept world.now) number job.now).findings) }
 {
+    put_swap(out, number as u64)?;
     let (book, report) = told_swap(alloc, number, job, world)?;
-    write_swap(alloc, sink, out, number as u64, job, &book, &report)?;
+    hand_report(sink, out, job, &book, &report)?;
     Ok(report.findings.len() as u64)
 }
 

@@ -1,35 +1,21 @@
 //! The whole text.
 
-ghost use Rattle.std.specs.Prelude.{◌≡◌, ◌++◌, ◌≤◌, IfOk, IsErrOf, OnOk};
+ghost use Rattle.std.specs.Prelude.{◌≡◌, ◌≤◌, IfOk, IsErrOf, OnOk};
 ghost use Rattle.std.specs.Io.KnownBytes.{Appends};
 ghost use Rattle.swap_io.specs.Causes.{AppendsProperPrefix, Rose};
 ghost use Rattle.swap_io.specs.Handed.{AppendsPrefix, Hands};
 ghost use Rattle.swap_many.specs.Value.{many_kept};
-ghost use Rattle.report_text.specs.Report.{count_line};
 ghost use Rattle.many_text.specs.ManyText.{has_finding, many_text};
 ghost use Rattle.many_text.specs.Shown.{AreChainsShown, AreShown};
 
 use crate::chains::put_chains;
 use crate::swaps::write_swaps;
+use report_text::put_count;
 use std::alloc::Global;
-use swap_base::{ByteText, Listed, NoMemory, Piece, put};
+use swap_base::{ByteText, Listed};
 use swap_io::{Sink, TextFault, flush};
 use swap_job::Job;
 use swap_many::ManyWorld;
-
-#[tactic(auto, unfolding(report_text::specs::Report::count_line))]
-fn put_count(out: &mut Vec<u8>, count: u64) -> Result<(), NoMemory>
-    ensures { OnOk result (out.new.items ≡ out.old.items ++ count_line count) }
-{
-    put(
-        out,
-        &[
-            Piece::Text("findings "),
-            Piece::Number(count),
-            Piece::Text("\n"),
-        ],
-    )
-}
 
 /// The text, handed on but for what waits, and whether it tells of a finding.
 fn hand_many<K: Sink>(

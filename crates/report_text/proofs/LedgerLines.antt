@@ -12,16 +12,44 @@ use Rattle.swap_job.specs.declared.job.Job.{Job}
 use Rattle.outcome_rules.specs.declared.report.Report.{Report}
 use Rattle.report_text.specs.Report.{count_line, report_entry_line, finding_line, head_lines, ledger_end, ledger_head, ledger_report_text, party_line, report}
 
+-- The parts of a ledger's lines.
+pub record LedgerParts : Type 0 where
+  pub head : List ℕ
+  pub entries : List ℕ
+  pub last : List ℕ
+
+abbrev pub ledger_parts : List (List ℕ) → Deal → ℕ → List Entry → LedgerParts
+ledger_parts names d a h = record {
+  head = ledger_head names a (ends d.graph a) (amount d a);
+  entries = lines (report_entry_line names (stated_terms d a)) 0 h;
+  last = ledger_end names (ends d.graph a) (height h) (accounts d a h);
+}
+
 pub of_ledger : (names : List (List ℕ)) (d : Deal) (a : ℕ) (h : List Entry)
-    → ledger_head names a (ends d.graph a) (amount d a) ++ (lines (report_entry_line names (stated_terms d a)) 0 h ++
-    (ledger_end names (ends d.graph a) (height h) (accounts d a h) ++ []))
-    ≡ ledger_report_text names d a h
+    → (ledger_parts names d a h).head ++ ((ledger_parts names d a h).entries ++ ((ledger_parts names d a h).last ++ [])) ≡ ledger_report_text names d a h
 unfolding ledger_report_text
 of_ledger names d a h = refl
 
+-- The parts of a report.
+pub record ReportParts : Type 0 where
+  pub head : List ℕ
+  pub ledgers : List ℕ
+  pub parties : List ℕ
+  pub findings : List ℕ
+  pub count : List ℕ
+
+abbrev pub report_parts : Job → Histories → Report → ReportParts
+report_parts job b r = record {
+  head = head_lines job.deal;
+  ledgers = lines (ledger_report_text job.names job.deal) 0 b;
+  parties = lines (party_line job.names job.conforming r.ended) 0 r.outcomes;
+  findings = lines (λ _. finding_line job.names) 0 r.findings;
+  count = count_line (length r.findings);
+}
+
 pub of_report : (job : Job) (b : Histories) (r : Report)
-    → head_lines job.deal ++ (lines (ledger_report_text job.names job.deal) 0 b ++ (lines (party_line job.names job.conforming r.ended) 0 r.outcomes
-    ++ (lines (λ _. finding_line job.names) 0 r.findings ++ (count_line (length r.findings) ++ []))))
+    → (report_parts job b r).head ++ ((report_parts job b r).ledgers ++ ((report_parts job b r).parties ++ ((report_parts job b r).findings ++
+    ((report_parts job b r).count ++ []))))
     ≡ report job b r
 unfolding report
 of_report job b r = refl

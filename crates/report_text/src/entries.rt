@@ -1,19 +1,16 @@
 //! The line of an entry.
 
-ghost use Rattle.std.specs.Prelude.{◌≡◌, ◌<◌, ◌++◌, ◌∷◌, ℕ, length, OnOk};
+ghost use Rattle.std.specs.Prelude.{◌≡◌, ◌++◌, ◌∷◌, ℕ, OnOk};
 ghost use Rattle.swap_base.specs.Text.{lines};
 ghost use Rattle.swap_io.specs.Handed.{Hands};
-ghost use Rattle.swap_digraph.specs.Deal.{IsWellSized};
-ghost use Rattle.escrow_core.specs.Terms.{stated_terms};
 ghost use Rattle.report_text.specs.Words.{comma_name, path_text, unlock_text, call_text, publish_text, sender_text as sender_of};
 ghost use Rattle.report_text.specs.Report.{what_line, report_entry_line};
 ghost use Rattle.report_text.specs.Items.{item_line};
 
-use escrow_core::{Terms, stated_terms};
+use escrow_core::Terms;
 use ledger_core::{Call, Entry, EntryList, Item, Sender, What};
 use refusals::{party_name, put_reply};
-use swap_base::{ArcId, ByteText, LockId, NoMemory, PartyId, Piece, put};
-use swap_digraph::Deal;
+use swap_base::{ByteText, LockId, NoMemory, PartyId, Piece, put};
 use swap_io::{Sink, TextFault, flush_waiting};
 
 fn put_comma_name(out: &mut Vec<u8>, names: &[ByteText], p: PartyId) -> Result<(), NoMemory>
@@ -181,16 +178,12 @@ pub(crate) fn write_entries<K: Sink>(
     sink: &mut K,
     out: &mut Vec<u8>,
     names: &[ByteText],
-    deal: &Deal,
-    number: ArcId,
+    correct: &Terms,
     entries: &EntryList,
 ) -> Result<(), TextFault>
-    requires sized { IsWellSized deal.now }
-    requires arc { number < length deal.now.graph.arcs }
     ensures { Hands (K.taken sink.old) (K.taken sink.new) (K.faults sink.old) (K.faults sink.new) out.old.items out.new.items
-        (lines (report_entry_line names.now (stated_terms deal.now number)) 0 entries.now) result }
+        (lines (report_entry_line names.now correct.now) 0 entries.now) result }
 {
-    let correct = stated_terms(deal, number);
     let (items, _) = entries.parts();
-    write_items(sink, out, names, &correct, items)
+    write_items(sink, out, names, correct, items)
 }

@@ -198,15 +198,16 @@ pub(crate) fn write_findings<K: Sink>(
     Ok(())
 }
 
+/// The last line of a report, which tells how many findings there are.
 #[tactic(auto, unfolding(crate::specs::Report::count_line))]
-pub(crate) fn put_count(out: &mut Vec<u8>, count: usize) -> Result<(), NoMemory>
+pub fn put_count(out: &mut Vec<u8>, count: u64) -> Result<(), NoMemory>
     ensures { OnOk result (out.new.items ≡ out.old.items ++ count_line count) }
 {
     put(
         out,
         &[
             Piece::Text("findings "),
-            Piece::Number(count as u64),
+            Piece::Number(count),
             Piece::Text("\n"),
         ],
     )

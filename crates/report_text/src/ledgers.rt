@@ -10,6 +10,7 @@ ghost use Rattle.ledger_core.specs.Book.{IsLegalBook};
 ghost use Rattle.report_text.specs.Report.{ledger_head, ledger_end, ledger_report_text};
 
 use crate::entries::write_entries;
+use escrow_core::stated_terms;
 use ledger_core::{Accounts, Book, EntryList, history_accounts};
 use refusals::party_name;
 use swap_base::{ArcId, ByteText, NoMemory, Piece, put};
@@ -112,8 +113,9 @@ fn write_ledger<K: Sink>(
     ensures { Hands (K.taken sink.old) (K.taken sink.new) (K.faults sink.old) (K.faults sink.new) out.old.items out.new.items
         (ledger_report_text names.now deal.now number entries.now) result }
 {
+    let correct = stated_terms(deal, number);
     put_head(out, names, deal, number)?;
-    write_entries(sink, out, names, deal, number, entries)?;
+    write_entries(sink, out, names, &correct, entries)?;
     put_last(out, names, deal, number, entries)?;
     flush_waiting(sink, out)
 }

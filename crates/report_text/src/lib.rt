@@ -8,4 +8,5 @@ mod findings;
 mod ledgers;
 mod report;
 
-pub use report::{report_text, write_report};
+pub use findings::put_count;
+pub use report::{hand_report, report_text, write_report};

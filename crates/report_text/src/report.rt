@@ -1,6 +1,6 @@
 //! The text of a report.
 
-ghost use Rattle.std.specs.Prelude.{◌≡◌, ◌++◌, OnOk, IfOk, IsErrOf, ◌≤◌, length};
+ghost use Rattle.std.specs.Prelude.{◌≡◌, ◌++◌, [], OnOk, IfOk, IsErrOf, ◌≤◌, length};
 ghost use Rattle.std.specs.Io.KnownBytes.{Appends};
 ghost use Rattle.swap_base.specs.Text.{lines};
 ghost use Rattle.swap_io.specs.Causes.{AppendsProperPrefix, Rose};
@@ -97,11 +97,11 @@ fn write_found<K: Sink>(
 fn put_last(out: &mut Vec<u8>, report: &Report) -> Result<(), NoMemory>
     ensures { OnOk result (out.new.items ≡ out.old.items ++ count_line (length report.now.findings)) }
 {
-    put_count(out, report.findings.len())
+    put_count(out, report.findings.len() as u64)
 }
 
-/// The lines of a report, handed on but for what waits.
-fn write_lines<K: Sink>(
+/// The lines of a report, handed on behind what waits, so that nothing waits after them.
+pub fn hand_report<K: Sink>(
     sink: &mut K,
     out: &mut Vec<u8>,
     job: &Job,
@@ -111,15 +111,16 @@ fn write_lines<K: Sink>(
     requires sized { IsWellSized job.now.deal }
     requires legal { IsLegalBook job.now.deal book.now.histories }
     requires parties { length report.now.outcomes ≤ 256 }
-    ensures { Hands (K.taken sink.old) (K.taken sink.new) (K.faults sink.old) (K.faults sink.new) out.old.items out.new.items
+    ensures hands { Hands (K.taken sink.old) (K.taken sink.new) (K.faults sink.old) (K.faults sink.new) out.old.items out.new.items
         (to_text job.now book.now.histories report.now) result }
+    ensures none { OnOk result (out.new.items ≡ []) }
 {
     put_head(out, &job.deal)?;
     write_book(sink, out, job, book)?;
     put_roles(out, job, report)?;
     write_found(sink, out, job, report)?;
     put_last(out, report)?;
-    Ok(())
+    flush(sink, out)
 }
 
 /// Writes the report of a job's book: each ledger's calls with their replies, each party's outcome,
@@ -143,8 +144,7 @@ pub fn write_report<K: Sink>(
     ensures failed { IsErrOf result TextFault.WriteFault → Rose (K.faults sink.old) (K.faults sink.new) }
 {
     let mut out = Vec::new(alloc);
-    write_lines(sink, &mut out, job, book, report)?;
-    flush(sink, &mut out)
+    hand_report(sink, &mut out, job, book, report)
 }
 
 /// The report of a job's book, as `write_report` writes it. For programs of others: this

@@ -13,14 +13,13 @@ use Rattle.swap_commands.specs.Cleared.{IsCleared, IsFurther}
 use Rattle.command_input.specs.Faults.{named_fault, of_offer}
 use Rattle.command_input.specs.Input.{InputProgress, Desk, Ends, GivesLine, IsLast, IsLine, Stops, Tells, ahead, desk, fresh}
 use Rattle.swap_commands.specs.Output.{refuse_further_line, clear_output, refusal_names, no_chance, output_given_chance, plain_text, wish_lines_output}
-use Rattle.swap_commands.specs.Says.{IsCommandRefusal, StatusSays}
+use Rattle.swap_commands.specs.Says.{CommandSays, IsCommandRefusal}
 use Rattle.command_input.specs.declared.fault.InputFault.{InputFault}
 use Rattle.command_input.specs.declared.fault.InputFault.TheVariants.{Refused}
 use Rattle.swap_commands.specs.Words.{Clear}
 use Rattle.command_input.specs.declared.status.Status.{Status}
 use Rattle.command_input.proofs.Ahead.{stands_on}
-use Rattle.swap_commands.proofs.Reading.{set_contains_ends}
-use Rattle.swap_commands.proofs.Saying.{says_written}
+use Rattle.swap_commands.proofs.Saying.{says_whole}
 use Rattle.swap_commands.specs.Strategies.{given_strategies}
 use Rattle.command_input.proofs.Streams.{can_come, last_run, line_of, no_memory_after, stops_same}
 use Rattle.command_input.specs.Written.{StatusWrites}
@@ -114,18 +113,10 @@ module _ (has : List ℕ → Bool) where
 
   pub says_clear : (may : MayGive) (left left' : Option (List ℕ)) (n m : ℕ) (taken taken' : Option (List ℕ)) (p q : ℕ) (now : InputProgress) (text : List ℕ)
       (status : Status) (e : Ends (λ bytes. IsCleared bytes text) (desk left n fresh) (desk left' m now)) → StatusWrites taken taken' p q (plain_text text) status
-      → StatusSays (given_strategies has may) Clear (streams left n taken p) (streams left' m taken' q) status
+      → CommandSays (given_strategies has may) Clear (streams left n taken p) (streams left' m taken' q) status
   says_clear may left left' n m taken taken' p q now text status e w =
-      says_written has may no_chance Clear left left' n m taken taken' p q (plain_text text)
-      (record {
-        input = e.bytes;
-        taken = e.stands.took.consumed;
-        ended = e.ended;
-        within = set_contains_ends has (λ bytes. IsCleared bytes text) left left' n m now e;
-        gives = gives_text e.bytes text e.told;
-      })
-      (record { text = text; shown = refl; cleared = e.told })
-      status w
+      says_whole has may no_chance Clear (λ bytes. IsCleared bytes text) left left' n m taken taken' p q now (plain_text text) status e
+      (gives_text e.bytes text e.told) (record { text = text; shown = refl; cleared = e.told }) w
 
 -- a further line
 pub further_stops : (more : Bool) (s t : Desk) (fault : InputFault Refusal) → more ≡ true → GivesLine more s t

@@ -26,7 +26,7 @@ use Rattle.swap_commands.specs.Many.{Headed, kept_after_finish, events_told, hea
 use Rattle.swap_commands.specs.ManyRead.{AreRun, IsHeading, IsManyPlayed, new_worlds, places_after_events}
 use Rattle.swap_commands.specs.Output.{AreGiven, by_many, reason_alone, refusal_names, names_told, output_given_chance}
 use Rattle.swap_commands.specs.Promised.{IsManyRun}
-use Rattle.swap_commands.specs.Says.{IsCommandRefusal, StatusSays}
+use Rattle.swap_commands.specs.Says.{CommandSays, IsCommandRefusal}
 use Rattle.command_input.specs.declared.fault.InputFault.{InputFault}
 use Rattle.command_input.specs.declared.status.Status.{Status}
 use Rattle.command_input.specs.Streams.{streams}
@@ -34,9 +34,8 @@ use Rattle.swap_commands.specs.Words.{Many}
 use Rattle.swap_commands.proofs.ManyPromises.{are_ended, are_fair, are_promised}
 use Rattle.swap_commands.proofs.ManyTold.{fails_with}
 use Rattle.swap_commands.proofs.ManyWorlds.{all_can, kept_before, new_are_of, new_at}
-use Rattle.swap_commands.proofs.Reading.{set_contains_ends}
 use Rattle.swap_commands.proofs.Replays.{are_given}
-use Rattle.swap_commands.proofs.Saying.{says_written}
+use Rattle.swap_commands.proofs.Saying.{says_whole}
 use Rattle.swap_commands.specs.Strategies.{given_strategies}
 
 module _ (has : List ℕ → Bool) where
@@ -222,14 +221,8 @@ module _ (has : List ℕ → Bool) where
       (finish : Finish) (w last : ManyState) (status : Status)
       (e : Ends (λ bytes. IsManyPlayed has gives bytes many finish w) (desk left n fresh) (desk left' m now))
       → AreSwaps many → HasManyGone gives (kept_after_finish finish) w last → StatusWrites taken taken' p q (many_written many (many_kept last)) status
-      → StatusSays (given_strategies has gives) Many (streams left n taken p) (streams left' m taken' q) status
+      → CommandSays (given_strategies has gives) Many (streams left n taken p) (streams left' m taken' q) status
   says_many gives left left' n m taken taken' p q now many finish w last status e swaps gone wrote =
-      says_written has gives (by_many (λ s. world_answers (nth_world last s))) Many left left' n m taken taken' p q (many_written many (many_kept last))
-      (record {
-        input = e.bytes;
-        taken = e.stands.took.consumed;
-        ended = e.ended;
-        within = set_contains_ends has (λ bytes. IsManyPlayed has gives bytes many finish w) left left' n m now e;
-        gives = many_made gives e.bytes many finish w last e.told gone;
-      })
-      (is_many_run gives e.bytes many finish w last e.told gone swaps) status wrote
+      says_whole has gives (by_many (λ s. world_answers (nth_world last s))) Many (λ bytes. IsManyPlayed has gives bytes many finish w) left left' n m
+      taken taken' p q now (many_written many (many_kept last)) status e (many_made gives e.bytes many finish w last e.told gone)
+      (is_many_run gives e.bytes many finish w last e.told gone swaps) wrote

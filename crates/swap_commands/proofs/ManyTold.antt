@@ -57,7 +57,7 @@ module _ (has : List ℕ → Bool) where
   finish_of : (stage : Stage) → is_some (finish_told stage) ≡ true → (finish : Finish) × (stage ≡ Over finish)
   finish_of First e = absurd (cc e)
   finish_of Words e = absurd (cc e)
-  finish_of (Header before chains) e = absurd (cc e)
+  finish_of (Header before) e = absurd (cc e)
   finish_of (Over finish) e = (finish, refl)
 
   pub heading_read : (first now : Desk) (count : ℕ) (h : HeadingState) → Led heading_walk first nothing_headed now count h
@@ -78,7 +78,7 @@ module _ (has : List ℕ → Bool) where
   cut_at : (stage : Stage) → is_some (finish_told stage) ≡ false → stage_finish stage ≡ Err (refusal [] CutShort)
   cut_at First e = refl
   cut_at Words e = refl
-  cut_at (Header before chains) e = refl
+  cut_at (Header before) e = refl
   cut_at (Over finish) e = absurd (cc e)
 
   pub heading_cut : (first s t : Desk) (count : ℕ) (h : HeadingState) (fault : InputFault Refusal)

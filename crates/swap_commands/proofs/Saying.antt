@@ -24,14 +24,14 @@ use Rattle.made_jobs.specs.Making.{IsMade}
 use Rattle.swap_commands.specs.Entered.{HasEntered}
 use Rattle.swap_commands.specs.Replay.{IsChecked, IsConcluded, IsEntered, IsPlayed, IsCopied}
 use Rattle.command_input.specs.Faults.{unread}
-use Rattle.command_input.specs.Input.{InputProgress, Drains, Ends, HasStopped, TookPart, IsTooLong, Stops, desk, fresh, limit}
+use Rattle.command_input.specs.Input.{InputProgress, Desk, Drains, Ends, HasStopped, TookPart, IsTooLong, Stops, desk, fresh, limit}
 use Rattle.command_input.specs.declared.fault.InputFault.{InputFault}
 use Rattle.command_input.specs.declared.fault.InputFault.TheVariants as fault
 use Rattle.command_input.proofs.Streams.{calm_unread, has_stopped}
 use Rattle.swap_commands.specs.Output.{AreGiven, Chance, by_answers, by_book, command_cast, finished_state, no_chance, output_given_chance, reported, written_check, plain_text}
 use Rattle.swap_commands.specs.Recorded.{AreRecorded}
 use Rattle.swap_commands.specs.Promised.{AsPromised}
-use Rattle.swap_commands.specs.Says.{HasRead, IsCommandRefusal, StatusSays}
+use Rattle.swap_commands.specs.Says.{CommandSays, HasRead, IsCommandRefusal, StatusSays}
 use Rattle.command_input.specs.Written.{StatusWrites, Written}
 use Rattle.swap_commands.specs.Words.{Command, OfJob, Check, Run, Race, Make}
 use Rattle.command_input.specs.declared.status.Status.{Status}
@@ -98,23 +98,46 @@ module _ (has : List ℕ → Bool) where
   pub says_stopped : (gives : MayGive) (command : Command) (left left' left'' : Option (List ℕ)) (n m k : ℕ) (mid now : InputProgress) (taken : Option (List ℕ)) (p : ℕ)
       (f answer : InputFault Refusal) → Stops (IsCommandRefusal has command) (desk left n fresh) (desk left' m mid) f
       → Drains (desk left' m mid) (desk left'' k now) f answer
-      → StatusSays (given_strategies has gives) command (streams left n taken p) (streams left'' k taken p) (unread answer)
+      → CommandSays (given_strategies has gives) command (streams left n taken p) (streams left'' k taken p) (unread answer)
   says_stopped gives command left left' left'' n m k mid now taken p f answer s d =
-      says_unread gives command left left'' n k now taken taken p p (Keeps-refl taken) answer
-      (has_stopped (IsCommandRefusal has command) (desk left n fresh) (desk left' m mid) (desk left'' k now) f answer s d)
-
-  pub calm_stopped : (command : Command) (left left' left'' : Option (List ℕ)) (n m k : ℕ) (mid now : InputProgress)
-      (f answer : InputFault Refusal) → Stops (IsCommandRefusal has command) (desk left n fresh) (desk left' m mid) f
-      → Drains (desk left' m mid) (desk left'' k now) f answer → ¬ (unread answer ≡ ReadFault) → k ≡ n
-  calm_stopped command left left' left'' n m k mid now f answer s d unless =
-      calm_unread (IsCommandRefusal has command) (desk left n fresh) (desk left'' k now) answer
-      (has_stopped (IsCommandRefusal has command) (desk left n fresh) (desk left' m mid) (desk left'' k now) f answer s d) unless
+      let first : Desk = desk left n fresh in
+      let last : Desk = desk left'' k now in
+      let stopped : HasStopped (IsCommandRefusal has command) first last answer =
+      has_stopped (IsCommandRefusal has command) first (desk left' m mid) last f answer s d in
+      record {
+        says = says_unread gives command left left'' n k now taken taken p p (Keeps-refl taken) answer stopped;
+        calm = λ unless. calm_unread (IsCommandRefusal has command) first last answer stopped unless;
+      }
 
   pub all_consumed : (P : List ℕ → Type 0) (left left' : Option (List ℕ)) (n m : ℕ) (now : InputProgress) → Ends P (desk left n fresh) (desk left' m now)
       → ConsumesAtMost left left' limit
   all_consumed P left left' n m now e = (e.bytes, set_contains_ends has P left left' n m now e, e.stands.took.consumed)
 
   -- What a command says whose input was read whole.
+
+  pub says_whole : (gives : MayGive) (a : Chance) (command : Command) (P : List ℕ → Type 0) (left left' : Option (List ℕ)) (n m : ℕ)
+      (taken taken' : Option (List ℕ)) (p q : ℕ) (now : InputProgress) (output : Written) (status : Status) (e : Ends P (desk left n fresh) (desk left' m now))
+      → output_given_chance has a command e.bytes ≡ Ok output → AsPromised has gives a command e.bytes output → StatusWrites taken taken' p q output status
+      → CommandSays (given_strategies has gives) command (streams left n taken p) (streams left' m taken' q) status
+  says_whole gives a command P left left' n m taken taken' p q now output status e made promised w = record {
+    says = says_written gives a command left left' n m taken taken' p q output
+        (record {
+          input = e.bytes;
+          taken = e.stands.took.consumed;
+          ended = e.ended;
+          within = set_contains_ends has P left left' n m now e;
+          gives = made;
+        })
+        promised status w;
+    calm = λ unless. e.stands.calm;
+  }
+
+  -- memory ran out before anything was written
+  pub says_short : (gives : MayGive) (command : Command) (P : List ℕ → Type 0) (left left' : Option (List ℕ)) (n m : ℕ) (taken : Option (List ℕ)) (p : ℕ)
+      (now : InputProgress) (e : Ends P (desk left n fresh) (desk left' m now))
+      → CommandSays (given_strategies has gives) command (streams left n taken p) (streams left' m taken p) NoMemory
+  says_short gives command P left left' n m taken p now e =
+      record { says = inl (Keeps-refl taken, all_consumed P left left' n m now e); calm = λ unless. e.stands.calm }
 
   module _ (gives : MayGive) (transcript : Bool) (left left' : Option (List ℕ)) (n m : ℕ) (taken taken' : Option (List ℕ)) (p q : ℕ) where
     says_played : (a : Answers) (now : InputProgress) (job : Job) (s : State) (b : Histories) (status : Status)
@@ -124,23 +147,16 @@ module _ (has : List ℕ → Bool) where
         → AreRecorded (command_cast a job) (finished_state job.finish (command_cast a job) s) → (job.finish ≡ Fair → IsEnded job.deal b)
         → (job.finish ≡ Fair → s ≡ start (job_cast job) → AllAreConforming job.deal job.conforming → IsDealt job.deal (is_conforming_party job.conforming) b)
         → StatusWrites taken taken' p q (reported transcript job b) status
-        → StatusSays (given_strategies has gives) (OfJob (Run transcript)) (streams left n taken p) (streams left' m taken' q) status
+        → CommandSays (given_strategies has gives) (OfJob (Run transcript)) (streams left n taken p) (streams left' m taken' q) status
     says_played a now job s b status e given same k kept disks ended dealt w =
         let out : Written = reported transcript job b in
         let made : output_given_chance has (by_answers a) (OfJob (Run transcript)) e.bytes ≡ Ok out =
         gives_run has a transcript e.bytes job s e.told ∙ ap (λ (x : Histories). Ok (reported transcript job x)) (sym same) in
-        says_written gives (by_answers a) (OfJob (Run transcript)) left left' n m taken taken' p q out
-        (record {
-          input = e.bytes;
-          taken = e.stands.took.consumed;
-          ended = e.ended;
-          within = set_contains_ends has (λ bytes. IsPlayed has a bytes job s) left left' n m now e;
-          gives = made;
-        })
+        says_whole gives (by_answers a) (OfJob (Run transcript)) (λ bytes. IsPlayed has a bytes job s) left left' n m taken taken' p q now out status e made
         (run_of_bytes has gives a transcript e.bytes ((e.told.line, e.told.text) ∷ e.told.others) out e.told.lines
         (is_run has gives a transcript e.told.line e.told.text e.told.others job s b out e.told.header e.told.leads given same refl k kept disks
         ended dealt))
-        status w
+        w
 
     -- the answers are those with which the world was finished
     pub says_run : (now : InputProgress) (job : Job) (world : WorldState) (b : Histories) (status : Status)
@@ -150,7 +166,7 @@ module _ (has : List ℕ → Bool) where
         → (job.finish ≡ Fair → world.state ≡ start (job_cast job) → AllAreConforming job.deal job.conforming
         → IsDealt job.deal (is_conforming_party job.conforming) b)
         → StatusWrites taken taken' p q (reported transcript job b) status
-        → StatusSays (given_strategies has gives) (OfJob (Run transcript)) (streams left n taken p) (streams left' m taken' q) status
+        → CommandSays (given_strategies has gives) (OfJob (Run transcript)) (streams left n taken p) (streams left' m taken' q) status
     says_run now job world b status e c k kept ended dealt w =
         says_played c.answers now job world.state b status (e c.answers c.continues) c.given c.book k kept c.recorded ended dealt w
 
@@ -189,35 +205,22 @@ module _ (has : List ℕ → Bool) where
       (status : Status)
       (e : Ends (λ bytes. IsChecked has bytes job) (desk left n fresh) (desk left' m now))
       → IsAccepted job.deal → StatusWrites taken taken' p q (written_check job) status
-      → StatusSays (given_strategies has gives) (OfJob Check) (streams left n taken p) (streams left' m taken' q) status
+      → CommandSays (given_strategies has gives) (OfJob Check) (streams left n taken p) (streams left' m taken' q) status
   says_check gives left left' n m taken taken' p q now job status e k w =
-      says_written gives no_chance (OfJob Check) left left' n m taken taken' p q (written_check job)
-      (record {
-        input = e.bytes;
-        taken = e.stands.took.consumed;
-        ended = e.ended;
-        within = set_contains_ends has (λ bytes. IsChecked has bytes job) left left' n m now e;
-        gives =
-            gives_check has e.bytes job e.told;
-      })
+      says_whole gives no_chance (OfJob Check) (λ bytes. IsChecked has bytes job) left left' n m taken taken' p q now (written_check job) status e
+      (gives_check has e.bytes job e.told)
       (check_of_bytes has e.bytes ((e.told.line, e.told.text) ∷ e.told.others) (written_check job) e.told.lines
       (is_check has e.told.line e.told.text e.told.others job tt (written_check job) e.told.header e.told.leads refl k))
-      status w
+      w
 
   pub says_make : (gives : MayGive) (left left' : Option (List ℕ)) (n m : ℕ) (taken taken' : Option (List ℕ)) (p q : ℕ) (now : InputProgress) (job : Job)
       (text : List ℕ) (status : Status)
       (e : Ends (λ bytes. IsCopied has bytes job text) (desk left n fresh) (desk left' m now))
       → IsMade job → StatusWrites taken taken' p q (plain_text text) status
-      → StatusSays (given_strategies has gives) (OfJob Make) (streams left n taken p) (streams left' m taken' q) status
+      → CommandSays (given_strategies has gives) (OfJob Make) (streams left n taken p) (streams left' m taken' q) status
   says_make gives left left' n m taken taken' p q now job text status e k w =
-      says_written gives no_chance (OfJob Make) left left' n m taken taken' p q (plain_text text)
-      (record {
-        input = e.bytes;
-        taken = e.stands.took.consumed;
-        ended = e.ended;
-        within = set_contains_ends has (λ bytes. IsCopied has bytes job text) left left' n m now e;
-        gives = gives_make has e.bytes job text e.told;
-      })
+      says_whole gives no_chance (OfJob Make) (λ bytes. IsCopied has bytes job text) left left' n m taken taken' p q now (plain_text text) status e
+      (gives_make has e.bytes job text e.told)
       (making_of_bytes has e.bytes ((e.told.line, e.told.text) ∷ e.told.others) (plain_text text) e.told.lines
       (is_making has e.told.line e.told.text e.told.others job text (plain_text text) e.told.header e.told.leads k))
-      status w
+      w

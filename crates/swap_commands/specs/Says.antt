@@ -59,3 +59,8 @@ StatusSays who command before after NoMemory =
     (Keeps before.taken after.taken × ConsumesAtMost before.left after.left limit)
     ⊎ HasOutput who.holds who.gives (λ output. AppendsPrefix before.taken after.taken output.text) command before.left after.left
 StatusSays who command before after TooLong = ConsumesSome before.left after.left (limit + 1) × Keeps before.taken after.taken
+
+-- What a command says with its status. No read failed, unless the status tells of it.
+pub record CommandSays (who : Strategies) (command : Command) (before after : Streams) (s : Status) : Type 0 where
+  pub says : StatusSays who command before after s
+  pub calm : ¬ (s ≡ ReadFault) → after.read_faults ≡ before.read_faults

@@ -1,8 +1,9 @@
 -- What the lines of an input tell, one after another, and what that leads to.
-use Rattle.std.specs.Prelude.{◌≡◌, ◌+◌, ℕ, true, List, [], ◌∷◌, Result, Ok}
+use Rattle.std.specs.Prelude.{◌≡◌, ◌+◌, ℕ, true, List, [], ◌∷◌, Result, Ok, Err}
 use Rattle.std.specs.List.{FoldsTo}
 use Rattle.swap_base.specs.Fault.{◌>>=◌}
-use Rattle.command_input.specs.Input.{Desk, Ends, ahead}
+use Rattle.command_input.specs.Input.{Desk, Ends, Stops, ahead}
+use Rattle.command_input.specs.declared.fault.InputFault.{InputFault}
 
 -- the events of lines, or what is said against the first line that tells none; `count` lines came
 -- before
@@ -22,3 +23,9 @@ pub record IsWalked {E R A : Type 0} (leads : A → E → A → Type 0) (told : 
   pub are_told : Ends (λ bytes. lines_told told 0 (ahead first.at bytes) ≡ Ok events) first now
   pub met : now.at.over ≡ true
   pub stepped : FoldsTo leads old events new
+
+-- What a reading answers, from one desk to the next: what it came to, or why it stopped. P tells of
+-- the one, and Q relates the bytes to a refusal, whatever comes after them.
+abbrev pub Reads : {T R : Type 0} → (T → Desk → Desk → Type 0) → (List ℕ → R → Type 0) → Desk → Desk → Result T (InputFault R) → Type 0
+Reads P Q old new (Ok x) = P x old new
+Reads P Q old new (Err fault) = Stops Q old new fault

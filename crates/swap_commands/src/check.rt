@@ -1,15 +1,16 @@
 //! The command `check`: an offer is examined, and its times are written.
 
-ghost use Rattle.std.specs.Prelude.{◌≡◌, IfOk, IfErr};
+ghost use Rattle.std.specs.Prelude.{◌≡◌, IfOk};
 ghost use Rattle.swap_digraph.specs.Deal.{IsWellSized};
 ghost use Rattle.swap_rules.specs.Accepted.{IsAccepted};
 ghost use Rattle.swap_offer.specs.Checks.{deal_need};
-ghost use Rattle.command_input.specs.Input.{Ends, Stops, desk, fresh};
+ghost use Rattle.command_input.specs.Input.{Ends, desk, fresh};
 ghost use Rattle.command_input.specs.Written.{StatusWrites};
 ghost use Rattle.command_input.specs.Streams.{streams};
 ghost use Rattle.swap_commands.specs.Output.{check_text, written_check};
 ghost use Rattle.swap_commands.specs.Replay.{IsChecked};
-ghost use Rattle.swap_commands.specs.Says.{IsCommandRefusal, StatusSays};
+ghost use Rattle.swap_commands.specs.Says.{CommandSays, IsCommandRefusal};
+ghost use Rattle.swap_commands.specs.Walk.{Reads};
 ghost use Rattle.swap_commands.specs.Words.{Check, OfJob};
 ghost use Rattle.swap_commands.specs.Strategies.{given_strategies};
 
@@ -59,14 +60,11 @@ fn examine<S: Source, A: Strategies>(
     source: &mut S,
 ) -> Result<(Job, u32), InputFault<Refusal>>
     requires { input.old ≡ fresh }
-    ensures checked { IfOk result (λ j. Ends (λ bytes. IsChecked (A.holds strategies.now) bytes j.0) (desk (S.left source.old) (S.faults source.old) fresh)
-        (desk (S.left source.new) (S.faults source.new) input.new)) }
     ensures accepted { IfOk result (λ j. IsAccepted j.0.deal) }
     ensures sized { IfOk result (λ j. IsWellSized j.0.deal) }
     ensures need { IfOk result (λ j. j.1 ≡ deal_need j.0.deal) }
-    ensures stops { IfErr result (λ e. Stops (IsCommandRefusal (A.holds strategies.now) (OfJob Check))
-        (desk (S.left source.old) (S.faults source.old) fresh)
-        (desk (S.left source.new) (S.faults source.new) input.new) e) }
+    ensures reads { Reads (λ j. Ends (λ bytes. IsChecked (A.holds strategies.now) bytes j.0)) (IsCommandRefusal (A.holds strategies.now) (OfJob Check))
+        (desk (S.left source.old) (S.faults source.old) fresh) (desk (S.left source.new) (S.faults source.new) input.new) result }
 {
     let Prepared { job, need, .. } = first_line(alloc, strategies, Purpose::Check, input, source)?;
     match skip_events(alloc, &job, input, source) {
@@ -99,10 +97,9 @@ pub(crate) fn check<S: Source, K: Sink, A: Strategies>(
     sink: &mut K,
 ) -> Status
     requires { input.old ≡ fresh }
-    ensures says { StatusSays (given_strategies (A.holds strategies.now) (A.gives strategies.now)) (OfJob Check)
+    ensures { CommandSays (given_strategies (A.holds strategies.now) (A.gives strategies.now)) (OfJob Check)
         (streams (S.left source.old) (S.faults source.old) (K.taken sink.old) (K.faults sink.old))
         (streams (S.left source.new) (S.faults source.new) (K.taken sink.new) (K.faults sink.new)) result }
-    ensures calm { ¬ (result ≡ Status.ReadFault) → S.faults source.new ≡ S.faults source.old }
 {
     match examine(alloc, strategies, input, source) {
         Ok((job, need)) => write_checked_offer(alloc, sink, &job, need),

@@ -5,7 +5,8 @@ ghost use Rattle.clear_line.specs.ClearedText.{IsClearedLine};
 ghost use Rattle.swap_commands.specs.Cleared.{IsCleared, IsFurther};
 ghost use Rattle.command_input.specs.Input.{Ends, Fits, IsLast, IsLine, Stops, desk, fresh};
 ghost use Rattle.command_input.specs.Streams.{streams};
-ghost use Rattle.swap_commands.specs.Says.{IsCommandRefusal, StatusSays};
+ghost use Rattle.swap_commands.specs.Says.{CommandSays, IsCommandRefusal};
+ghost use Rattle.swap_commands.specs.Walk.{Reads};
 ghost use Rattle.swap_commands.specs.Words.{Clear};
 ghost use Rattle.swap_commands.specs.Strategies.{given_strategies};
 
@@ -47,10 +48,8 @@ fn refuse_further_line<S: Source>(
     source: &mut S,
 ) -> Result<(), InputFault<Refusal>>
     requires fits { Fits (S.left source.old) input.old }
-    ensures none { OnOk result (IsLast (desk (S.left source.old) (S.faults source.old) input.old)
-        (desk (S.left source.new) (S.faults source.new) input.new)) }
-    ensures stops { IfErr result (λ e. Stops (IsFurther input.old) (desk (S.left source.old) (S.faults source.old) input.old)
-        (desk (S.left source.new) (S.faults source.new) input.new) e) }
+    ensures { Reads (λ _. IsLast) (IsFurther input.old) (desk (S.left source.old) (S.faults source.old) input.old)
+        (desk (S.left source.new) (S.faults source.new) input.new) result }
 {
     if !input.next(source)? {
         return Ok(());
@@ -89,10 +88,9 @@ pub(crate) fn clear<S: Source, K: Sink, A: Strategies>(
     sink: &mut K,
 ) -> Status
     requires { input.old ≡ fresh }
-    ensures says { StatusSays (given_strategies (A.holds _strategies.now) (A.gives _strategies.now)) Clear
+    ensures { CommandSays (given_strategies (A.holds _strategies.now) (A.gives _strategies.now)) Clear
         (streams (S.left source.old) (S.faults source.old) (K.taken sink.old) (K.faults sink.old))
         (streams (S.left source.new) (S.faults source.new) (K.taken sink.new) (K.faults sink.new)) result }
-    ensures calm { ¬ (result ≡ Status.ReadFault) → S.faults source.new ≡ S.faults source.old }
 {
     match clear_wishes(alloc, input, source) {
         Ok(text) => write_plain_text(sink, &text),

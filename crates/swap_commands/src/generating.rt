@@ -7,11 +7,12 @@ ghost use Rattle.swap_commands.specs.Generated.{IsRequestStatus, IsSummary, summ
 ghost use Rattle.swap_gen.specs.Drawn.{generated};
 ghost use Rattle.made_jobs.specs.Generating.{generated_book};
 
+use audit_command::written_status;
 use command_input::Status;
 use made_jobs::{Summary, summarize, write_generated};
 use program_words::Request;
 use std::alloc::Global;
-use swap_io::{Sink, TextFault, write_all};
+use swap_io::{Sink, write_all};
 
 /// Writes the job with its events.
 fn write_job<K: Sink>(alloc: Global, request: Request, sink: &mut K) -> Status
@@ -19,11 +20,8 @@ fn write_job<K: Sink>(alloc: Global, request: Request, sink: &mut K) -> Status
     requires high { request.parties ≤ 24 }
     ensures { StatusWrites (K.taken sink.old) (K.taken sink.new) (K.faults sink.old) (K.faults sink.new) (text_output request) result }
 {
-    match write_generated(alloc, sink, request.seed, request.parties, request.events) {
-        Ok(()) => Status::Done,
-        Err(TextFault::WriteFault) => Status::WriteFault,
-        Err(TextFault::NoMemory) => Status::NoMemory,
-    }
+    let written = write_generated(alloc, sink, request.seed, request.parties, request.events);
+    written_status(written, false)
 }
 
 /// Writes a summary.

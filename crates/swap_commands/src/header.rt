@@ -15,47 +15,16 @@ use command_input::{Input, InputFault, no_line};
 use deviators::Strategies;
 use refusals::Refusal;
 use std::alloc::Global;
-use swap_base::ByteText;
+use swap_base::{ByteText, Listed, NoMemory};
 use swap_io::Source;
 use swap_job::Purpose;
 use swap_offer::{Prepared, read_header};
 
-/// The job of an input's header, where these are the names of the strategies.
-fn prepare_first<S: Source>(
-    alloc: Global,
-    strategy_names: &[ByteText],
-    purpose: Purpose,
-    input: &mut Input,
-    source: &mut S,
-) -> Result<Prepared, InputFault<Refusal>>
-    requires { input.old ≡ fresh }
-    ensures line { OnOk result (IsLine (desk (S.left source.old) (S.faults source.old) fresh)
-        (desk (S.left source.new) (S.faults source.new) input.new)) }
-    ensures header { IfOk result (λ p. parse_header_job (has_strategy strategy_names.now) purpose input.new.number
-        input.new.text ≡ Ok p.job) }
-    ensures names { IfOk result (λ p. p.job.names ≡ header_names (has_strategy strategy_names.now) purpose input.new.number
-        input.new.text) }
-    ensures whole { IfOk result (λ p. IsWholeJob p.job) }
-    ensures known { IfOk result (λ p. AreNames p.job.names) }
-    ensures purpose { IfOk result (λ p. p.job.purpose ≡ purpose) }
-    ensures accepted { IfOk result (λ p. IsAcceptedOrProposed purpose p.job.deal) }
-    ensures seeds { IfOk result (λ p. HaveRequiredSeeds purpose p.job) }
-    ensures wallets { IfOk result (λ p. HaveRequiredWallets purpose p.job) }
-    ensures strategies { IfOk result (λ p. HoldsEach (has_strategy strategy_names.now) p.job.roles) }
-    ensures scripts { IfOk result (λ p. HaveRequiredScripts purpose p.job) }
-    ensures made { IfOk result (λ p. p.wallets.items ≡ prepared_wallets purpose p.job) }
-    ensures need { IfOk result (λ p. p.need ≡ deal_need p.job.deal) }
-    // Whatever command of that purpose.
-    ensures stops { (command : JobCommand) → purpose ≡ command_purpose command
-        → IfErr result (λ e. Stops (IsCommandRefusal (has_strategy strategy_names.now) (OfJob command)) (desk (S.left source.old) (S.faults source.old) fresh)
-        (desk (S.left source.new) (S.faults source.new) input.new) e) }
+/// The names under which there is a strategy.
+pub(crate) fn strategy_names<A: Strategies>(strategies: &A) -> Result<Listed<ByteText>, NoMemory>
+    ensures { IfOk result (λ names. has_strategy names ≡ A.holds strategies.now) }
 {
-    if !input.next(source)? {
-        return Err(no_line(alloc));
-    }
-    let number = input.number();
-    let prepared = read_header(alloc, number, input.text(), purpose, strategy_names)?;
-    Ok(prepared)
+    strategies.names()
 }
 
 /// The job of an input's header, read for the purpose, with the wallets that this needs, or what is
@@ -89,6 +58,11 @@ pub(crate) fn first_line<S: Source, A: Strategies>(
         → IfErr result (λ e. Stops (IsCommandRefusal (A.holds strategies.now) (OfJob command)) (desk (S.left source.old) (S.faults source.old) fresh)
         (desk (S.left source.new) (S.faults source.new) input.new) e) }
 {
-    let strategy_names = strategies.names()?;
-    prepare_first(alloc, strategy_names.as_slice(), purpose, input, source)
+    let names = strategy_names(strategies)?;
+    if !input.next(source)? {
+        return Err(no_line(alloc));
+    }
+    let number = input.number();
+    let prepared = read_header(alloc, number, input.text(), purpose, names.as_slice())?;
+    Ok(prepared)
 }

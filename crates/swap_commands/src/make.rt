@@ -1,13 +1,14 @@
 //! The command `make`: a plain job is made, and its further lines are copied.
 
-ghost use Rattle.std.specs.Prelude.{◌≡◌, IfOk, IfErr, OnOk, Ok, Err};
+ghost use Rattle.std.specs.Prelude.{◌≡◌, IfOk, Ok, Err};
 ghost use Rattle.made_jobs.specs.Making.{copied, IsMade};
-ghost use Rattle.command_input.specs.Input.{Ends, Fits, Stops, ahead, desk, fresh};
+ghost use Rattle.command_input.specs.Input.{Ends, Fits, ahead, desk, fresh};
 ghost use Rattle.command_input.specs.Written.{StatusWrites};
 ghost use Rattle.command_input.specs.Streams.{streams};
 ghost use Rattle.swap_commands.specs.Output.{plain_text};
 ghost use Rattle.swap_commands.specs.Replay.{IsCopied};
-ghost use Rattle.swap_commands.specs.Says.{IsCommandRefusal, StatusSays};
+ghost use Rattle.swap_commands.specs.Says.{CommandSays, IsCommandRefusal};
+ghost use Rattle.swap_commands.specs.Walk.{Reads};
 ghost use Rattle.swap_commands.specs.Words.{Make, OfJob};
 ghost use Rattle.swap_commands.specs.Strategies.{given_strategies};
 
@@ -29,12 +30,9 @@ fn copy_lines<S: Source>(
     source: &mut S,
 ) -> Result<(), InputFault<Reason>>
     requires fits { Fits (S.left source.old) input.old }
-    ensures exact { OnOk result (Ends (λ bytes. copied 0 text.old.items (ahead input.old bytes) ≡ Ok text.new.items)
-        (desk (S.left source.old) (S.faults source.old) input.old)
-        (desk (S.left source.new) (S.faults source.new) input.new)) }
-    ensures stops { IfErr result (λ e. Stops (λ bytes reason. copied 0 text.old.items (ahead input.old bytes) ≡ Err reason)
-        (desk (S.left source.old) (S.faults source.old) input.old)
-        (desk (S.left source.new) (S.faults source.new) input.new) e) }
+    ensures { Reads (λ _. Ends (λ bytes. copied 0 text.old.items (ahead input.old bytes) ≡ Ok text.new.items))
+        (λ bytes reason. copied 0 text.old.items (ahead input.old bytes) ≡ Err reason)
+        (desk (S.left source.old) (S.faults source.old) input.old) (desk (S.left source.new) (S.faults source.new) input.new) result }
 {
     let mut count: u32 = 0;
     'lines: while input.next(source)? {
@@ -51,13 +49,9 @@ fn copy<S: Source, A: Strategies>(
     source: &mut S,
 ) -> Result<(Job, Vec<u8>), InputFault<Refusal>>
     requires { input.old ≡ fresh }
-    ensures copied { IfOk result (λ c. Ends (λ bytes. IsCopied (A.holds strategies.now) bytes c.0 c.1.items)
-        (desk (S.left source.old) (S.faults source.old) fresh)
-        (desk (S.left source.new) (S.faults source.new) input.new)) }
     ensures made { IfOk result (λ c. IsMade c.0) }
-    ensures stops { IfErr result (λ e. Stops (IsCommandRefusal (A.holds strategies.now) (OfJob Make))
-        (desk (S.left source.old) (S.faults source.old) fresh)
-        (desk (S.left source.new) (S.faults source.new) input.new) e) }
+    ensures reads { Reads (λ c. Ends (λ bytes. IsCopied (A.holds strategies.now) bytes c.0 c.1.items)) (IsCommandRefusal (A.holds strategies.now) (OfJob Make))
+        (desk (S.left source.old) (S.faults source.old) fresh) (desk (S.left source.new) (S.faults source.new) input.new) result }
 {
     let Prepared { job, .. } = first_line(alloc, strategies, Purpose::Make, input, source)?;
     let mut text = made_line(alloc, &job)?;
@@ -86,10 +80,9 @@ pub(crate) fn make<S: Source, K: Sink, A: Strategies>(
     sink: &mut K,
 ) -> Status
     requires { input.old ≡ fresh }
-    ensures says { StatusSays (given_strategies (A.holds strategies.now) (A.gives strategies.now)) (OfJob Make)
+    ensures { CommandSays (given_strategies (A.holds strategies.now) (A.gives strategies.now)) (OfJob Make)
         (streams (S.left source.old) (S.faults source.old) (K.taken sink.old) (K.faults sink.old))
         (streams (S.left source.new) (S.faults source.new) (K.taken sink.new) (K.faults sink.new)) result }
-    ensures calm { ¬ (result ≡ Status.ReadFault) → S.faults source.new ≡ S.faults source.old }
 {
     match copy(alloc, strategies, input, source) {
         Ok((_, text)) => write_plain_text(sink, &text),

@@ -1,8 +1,7 @@
 //! The command `many`: several swaps on shared chains are run, and their reports are written.
 
-ghost use Rattle.std.specs.Prelude.{◌≡◌, ◌<◌, IfOk, IfErr, OnOk, Err, length, map, slice_index_or, is_some, [], true};
+ghost use Rattle.std.specs.Prelude.{◌≡◌, ◌<◌, IfOk, IfErr, Err, length, map, slice_index_or, is_some, [], true};
 ghost use Rattle.swap_base.specs.Fault.{Fails};
-ghost use Rattle.offer_header.specs.Names.{has_strategy};
 ghost use Rattle.swap_offer.specs.Wallets.{prepared_wallets};
 ghost use Rattle.swap_world.specs.Value.{new_world};
 ghost use Rattle.swap_many.specs.Value.{AreAllHeld, HasManyGone, many_kept};
@@ -15,10 +14,12 @@ ghost use Rattle.command_input.specs.Written.{StatusWrites};
 ghost use Rattle.command_input.specs.Streams.{streams};
 ghost use Rattle.swap_commands.specs.Many.{kept_after_finish, headed, many_written, opened_places};
 ghost use Rattle.swap_commands.specs.ManyRead.{AreRun, CanReplayMany, HasStepped, IsHeading, IsLack, IsManyPlayed, AreOpenedWorlds, places_after_events};
-ghost use Rattle.swap_commands.specs.Says.{IsCommandRefusal, StatusSays};
+ghost use Rattle.swap_commands.specs.Says.{CommandSays, IsCommandRefusal};
+ghost use Rattle.swap_commands.specs.Walk.{Reads};
 ghost use Rattle.swap_commands.specs.Words.{Many};
 ghost use Rattle.swap_commands.specs.Strategies.{given_strategies};
 
+use crate::header::strategy_names;
 use crate::replay::new_world;
 use crate::walk::{Skip, Walker, walk};
 use command_input::{Input, InputFault, Status, unread};
@@ -49,32 +50,6 @@ fn cut_short(alloc: Global) -> InputFault<Refusal>
     InputFault::Refused(nameless(alloc, Reason::CutShort))
 }
 
-/// The lines before the events, where these are the names of the strategies.
-fn read_checked_heading<S: Source>(
-    alloc: Global,
-    strategy_names: &[ByteText],
-    input: &mut Input,
-    source: &mut S,
-) -> Result<Heading, InputFault<Refusal>>
-    requires { input.old ≡ fresh }
-    ensures heading { IfOk result (λ h. IsHeading (has_strategy strategy_names.now) h (desk (S.left source.old) (S.faults source.old) fresh)
-        (desk (S.left source.new) (S.faults source.new) input.new)) }
-    ensures over { IfOk result (λ h. is_some (finish_told h.stage) ≡ true) }
-    ensures held { IfOk result (λ h. HoldsEverySwap (has_strategy strategy_names.now) h.many) }
-    ensures stops { IfErr result (λ e. Stops (λ bytes r. headed (has_strategy strategy_names.now) (ahead fresh bytes) ≡ Err r)
-        (desk (S.left source.old) (S.faults source.old) fresh)
-        (desk (S.left source.new) (S.faults source.new) input.new) e) }
-{
-    let mut heading = Heading::new(alloc)?;
-    'lines: while heading.finish().is_none() {
-        if !input.next(source)? {
-            return Err(cut_short(alloc));
-        }
-        heading.push(alloc, strategy_names, input.number(), input.text())?;
-    }
-    Ok(heading)
-}
-
 /// The lines before the events.
 fn read_heading<S: Source, A: Strategies>(
     alloc: Global,
@@ -83,16 +58,20 @@ fn read_heading<S: Source, A: Strategies>(
     source: &mut S,
 ) -> Result<Heading, InputFault<Refusal>>
     requires { input.old ≡ fresh }
-    ensures heading { IfOk result (λ h. IsHeading (A.holds strategies.now) h (desk (S.left source.old) (S.faults source.old) fresh)
-        (desk (S.left source.new) (S.faults source.new) input.new)) }
     ensures over { IfOk result (λ h. is_some (finish_told h.stage) ≡ true) }
     ensures held { IfOk result (λ h. HoldsEverySwap (A.holds strategies.now) h.many) }
-    ensures stops { IfErr result (λ e. Stops (λ bytes r. headed (A.holds strategies.now) (ahead fresh bytes) ≡ Err r)
-        (desk (S.left source.old) (S.faults source.old) fresh)
-        (desk (S.left source.new) (S.faults source.new) input.new) e) }
+    ensures reads { Reads (IsHeading (A.holds strategies.now)) (λ bytes r. headed (A.holds strategies.now) (ahead fresh bytes) ≡ Err r)
+        (desk (S.left source.old) (S.faults source.old) fresh) (desk (S.left source.new) (S.faults source.new) input.new) result }
 {
-    let strategy_names = strategies.names()?;
-    read_checked_heading(alloc, strategy_names.as_slice(), input, source)
+    let names = strategy_names(strategies)?;
+    let mut heading = Heading::new(alloc)?;
+    'lines: while heading.finish().is_none() {
+        if !input.next(source)? {
+            return Err(cut_short(alloc));
+        }
+        heading.push(alloc, names.as_slice(), input.number(), input.text())?;
+    }
+    Ok(heading)
 }
 
 /// A copy of the name of an account.
@@ -244,12 +223,9 @@ fn run_events<S: Source, A: Strategies>(
     requires made { map (λ v. v.items) wallets.items ≡ map (prepared_wallets Purpose.Run) many.now.jobs }
     requires held { HoldsEverySwap (A.holds strategies.now) many.now }
     requires fits { Fits (S.left source.old) input.old }
-    ensures run { IfOk result (λ w. AreRun (A.gives strategies.now) many.now w (desk (S.left source.old) (S.faults source.old) input.old)
-        (desk (S.left source.new) (S.faults source.new) input.new)) }
     ensures held { IfOk result (AreAllHeld (A.holds strategies.now)) }
-    ensures stops { IfErr result (λ e. Stops (λ bytes r. places_after_events many.now (ahead input.old bytes) ≡ Err r)
-        (desk (S.left source.old) (S.faults source.old) input.old)
-        (desk (S.left source.new) (S.faults source.new) input.new) e) }
+    ensures reads { Reads (AreRun (A.gives strategies.now) many.now) (λ bytes r. places_after_events many.now (ahead input.old bytes) ≡ Err r)
+        (desk (S.left source.old) (S.faults source.old) input.old) (desk (S.left source.new) (S.faults source.new) input.new) result }
 {
     match open(alloc, many, wallets) {
         Ok(mut world) => {
@@ -269,14 +245,12 @@ fn play<S: Source, A: Strategies>(
     source: &mut S,
 ) -> Result<Played, InputFault<Refusal>>
     requires { input.old ≡ fresh }
-    ensures played { IfOk result (λ p. Ends (λ bytes. IsManyPlayed (A.holds strategies.now)
-        (A.gives strategies.now) bytes p.many p.finish p.world) (desk (S.left source.old) (S.faults source.old) fresh)
-        (desk (S.left source.new) (S.faults source.new) input.new)) }
     ensures chains { IfOk result (λ p. AreBoundedChains p.many) }
     ensures swaps { IfOk result (λ p. AreSwaps p.many) }
     ensures held { IfOk result (λ p. AreAllHeld (A.holds strategies.now) p.world) }
-    ensures stops { IfErr result (λ e. Stops (IsCommandRefusal (A.holds strategies.now) Many) (desk (S.left source.old) (S.faults source.old) fresh)
-        (desk (S.left source.new) (S.faults source.new) input.new) e) }
+    ensures reads { Reads (λ p. Ends (λ bytes. IsManyPlayed (A.holds strategies.now) (A.gives strategies.now) bytes p.many p.finish p.world))
+        (IsCommandRefusal (A.holds strategies.now) Many)
+        (desk (S.left source.old) (S.faults source.old) fresh) (desk (S.left source.new) (S.faults source.new) input.new) result }
 {
     let heading = read_heading(alloc, strategies, input, source)?;
     let finish = heading.finish().unwrap();
@@ -343,10 +317,9 @@ pub(crate) fn many<S: Source, K: Sink, A: Strategies>(
     sink: &mut K,
 ) -> Status
     requires { input.old ≡ fresh }
-    ensures says { StatusSays (given_strategies (A.holds strategies.now) (A.gives strategies.now)) Many
+    ensures { CommandSays (given_strategies (A.holds strategies.now) (A.gives strategies.now)) Many
         (streams (S.left source.old) (S.faults source.old) (K.taken sink.old) (K.faults sink.old))
         (streams (S.left source.new) (S.faults source.new) (K.taken sink.new) (K.faults sink.new)) result }
-    ensures calm { ¬ (result ≡ Status.ReadFault) → S.faults source.new ≡ S.faults source.old }
 {
     let Played {
         many,

@@ -1,7 +1,7 @@
 //! The command `run`: the events of a job are replayed, its finish is made, and the report is
 //! written, or the transcript.
 
-ghost use Rattle.std.specs.Prelude.{◌≡◌, false, IfOk, IfErr, IsErrOf, OnOk};
+ghost use Rattle.std.specs.Prelude.{◌≡◌, false, IfOk, IsErrOf, OnOk};
 ghost use Rattle.std.specs.Io.KnownBytes.{Appends};
 ghost use Rattle.swap_io.specs.Causes.{AppendsProperPrefix, Rose};
 ghost use Rattle.swap_io.specs.Handed.{AppendsPrefix};
@@ -21,13 +21,14 @@ ghost use Rattle.swap_world.specs.Gone.{HasAsked};
 ghost use Rattle.swap_world.specs.Actors.{AreHeld};
 ghost use Rattle.swap_world.specs.Value.{Continues, new_world};
 ghost use Rattle.swap_offer.specs.Job.{IsWholeJob};
-ghost use Rattle.command_input.specs.Input.{Ends, Stops, desk, fresh};
+ghost use Rattle.command_input.specs.Input.{Ends, desk, fresh};
 ghost use Rattle.command_input.specs.Written.{StatusWrites};
 ghost use Rattle.command_input.specs.Streams.{streams};
 ghost use Rattle.made_jobs.specs.Generating.{IsJobWorld};
 ghost use Rattle.swap_commands.specs.Output.{book_report, reported, run_text};
 ghost use Rattle.swap_commands.specs.Replay.{IsConcluded, IsPlayed};
-ghost use Rattle.swap_commands.specs.Says.{IsCommandRefusal, StatusSays};
+ghost use Rattle.swap_commands.specs.Says.{CommandSays, IsCommandRefusal};
+ghost use Rattle.swap_commands.specs.Walk.{Reads};
 ghost use Rattle.swap_commands.specs.Words.{OfJob, Run};
 ghost use Rattle.swap_commands.specs.Strategies.{given_strategies};
 
@@ -35,6 +36,7 @@ use crate::disks::look_at_disks;
 use crate::finish::finish;
 use crate::header::first_line;
 use crate::replay::replay;
+use audit_command::written_status;
 use command_input::{Input, InputFault, Status, unread};
 use deviators::Strategies;
 use ledger_core::Book;
@@ -58,10 +60,6 @@ fn play<S: Source, A: Strategies>(
     source: &mut S,
 ) -> Result<(Job, World), InputFault<Refusal>>
     requires { input.old ≡ fresh }
-    // Whatever strategies may answer after the last event.
-    ensures played { IfOk result (λ p. (a : Answers) → Continues p.1 a
-        → Ends (λ bytes. IsPlayed (A.holds strategies.now) a bytes p.0 p.1.state) (desk (S.left source.old) (S.faults source.old) fresh)
-        (desk (S.left source.new) (S.faults source.new) input.new)) }
     ensures asked { IfOk result (λ p. HasAsked (A.gives strategies.now) (new_world p.0) p.1) }
     ensures held { IfOk result (λ p. AreHeld (A.holds strategies.now) p.0.roles) }
     ensures whole { IfOk result (λ p. IsWholeJob p.0) }
@@ -70,9 +68,10 @@ fn play<S: Source, A: Strategies>(
     ensures accepted { IfOk result (λ p. IsAccepted p.0.deal) }
     ensures of { IfOk result (λ p. IsJobWorld p.0 p.1) }
     ensures goes_on { IfOk result (λ p. p.1.stopped ≡ false) }
-    ensures stops { IfErr result (λ e.
-        Stops (IsCommandRefusal (A.holds strategies.now) (OfJob (Run transcript))) (desk (S.left source.old) (S.faults source.old) fresh)
-        (desk (S.left source.new) (S.faults source.new) input.new) e) }
+    // Whatever strategies may answer after the last event.
+    ensures reads { Reads (λ p s t. (a : Answers) → Continues p.1 a → Ends (λ bytes. IsPlayed (A.holds strategies.now) a bytes p.0 p.1.state) s t)
+        (IsCommandRefusal (A.holds strategies.now) (OfJob (Run transcript)))
+        (desk (S.left source.old) (S.faults source.old) fresh) (desk (S.left source.new) (S.faults source.new) input.new) result }
 {
     let Prepared { job, wallets, .. } = first_line(alloc, strategies, Purpose::Run, input, source)?;
     match replay(alloc, &job, wallets, strategies, input, source) {
@@ -149,17 +148,8 @@ pub(crate) fn write_report_or_transcript<K: Sink>(
     let Ok(report) = build_report(alloc, &job.deal, &job.conforming, book) else {
         return Status::NoMemory;
     };
-    match write_text(alloc, transcript, sink, job, book, &report) {
-        Ok(()) => {
-            if report.findings.is_empty() {
-                Status::Done
-            } else {
-                Status::Named
-            }
-        }
-        Err(TextFault::WriteFault) => Status::WriteFault,
-        Err(TextFault::NoMemory) => Status::NoMemory,
-    }
+    let written = write_text(alloc, transcript, sink, job, book, &report);
+    written_status(written, !report.findings.is_empty())
 }
 
 /// Runs a job.
@@ -172,10 +162,9 @@ pub(crate) fn run<S: Source, K: Sink, A: Strategies>(
     sink: &mut K,
 ) -> Status
     requires { input.old ≡ fresh }
-    ensures says { StatusSays (given_strategies (A.holds strategies.now) (A.gives strategies.now)) (OfJob (Run transcript))
+    ensures { CommandSays (given_strategies (A.holds strategies.now) (A.gives strategies.now)) (OfJob (Run transcript))
         (streams (S.left source.old) (S.faults source.old) (K.taken sink.old) (K.faults sink.old))
         (streams (S.left source.new) (S.faults source.new) (K.taken sink.new) (K.faults sink.new)) result }
-    ensures calm { ¬ (result ≡ Status.ReadFault) → S.faults source.new ≡ S.faults source.old }
 {
     let (job, world) = match play(alloc, strategies, transcript, input, source) {
         Ok(played) => played,

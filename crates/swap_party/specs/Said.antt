@@ -2,11 +2,8 @@
 use Rattle.std.specs.Prelude.{◌≡◌, ◌≤◌, ◌<◌, ◌++◌, ℕ, Bool, true, false, List, drop, length, Result, Ok, Err}
 use Rattle.swap_rules.specs.Accepted.{IsAccepted}
 use Rattle.swap_job.specs.declared.job.Job.{Job}
-use Rattle.swap_job.specs.declared.job.Purpose.TheVariants.{Audit}
 use Rattle.refusals.specs.declared.refusal.Refusal.{Refusal}
-use Rattle.refusals.specs.Refusal.{named_result}
-use Rattle.offer_header.specs.Names.{no_strategy}
-use Rattle.swap_offer.specs.Job.{parse_header_job, header_names}
+use Rattle.transcript_reader.specs.Header.{parse_deal_header}
 use Rattle.party_answer.specs.declared.given.Answer.{Answer}
 use Rattle.party_answer.specs.declared.reason.AnswerReason.{AnswerReason}
 use Rattle.party_answer.specs.Promised.{IsTextAnswer}
@@ -64,8 +61,8 @@ IsAnswerSaid q (Err reason) old new said = IsSaid 3 (reason_line (Next reason)) 
 -- ---- a header
 
 -- the job of a header line as a transcript has it, or the first reason against it
-unfoldable pub header_said : List ℕ → Result Job Refusal
-header_said line = named_result (header_names no_strategy Audit 1 line) (parse_header_job no_strategy Audit 1 line)
+abbrev pub header_said : List ℕ → Result Job Refusal
+header_said line = parse_deal_header 1 line
 
 -- status 0 with the id of its deal, which is an accepted one, or 3 with the line of the first
 -- reason against it

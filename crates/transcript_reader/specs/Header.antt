@@ -13,10 +13,14 @@ use Rattle.swap_offer.specs.Job.{parse_header_job, header_names, IsWholeJob}
 use Rattle.transcript_reader.specs.declared.stage.Stage.{Stage}
 use Rattle.transcript_reader.specs.declared.stage.Stage.TheVariants.{Ledgers}
 
--- the job of a header line, or the first reason against it; it is the second line, and states no
+-- the job of a header line of that number, or the first reason against it; the line states no
 -- strategy
-unfoldable pub header_read : List ℕ → Result Job Refusal
-header_read line = named_result (header_names no_strategy Audit 2 line) (parse_header_job no_strategy Audit 2 line)
+unfoldable pub parse_deal_header : ℕ → List ℕ → Result Job Refusal
+parse_deal_header number line = named_result (header_names no_strategy Audit number line) (parse_header_job no_strategy Audit number line)
+
+-- the job of a transcript's header line, which is its second line
+abbrev pub header_read : List ℕ → Result Job Refusal
+header_read line = parse_deal_header 2 line
 
 -- A job as a transcript tells it: its deal is accepted, its parties are named, nobody's seed is
 -- there, and nothing is done after its last entry.

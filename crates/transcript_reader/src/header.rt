@@ -2,19 +2,20 @@
 
 ghost use Rattle.std.specs.Prelude.{IfOk};
 ghost use Rattle.swap_base.specs.Fault.{Gives};
-ghost use Rattle.transcript_reader.specs.Header.{header_read, IsTranscriptJob};
+ghost use Rattle.transcript_reader.specs.Header.{parse_deal_header, IsTranscriptJob};
 
 use refusals::HeaderFault;
 use std::alloc::Global;
 use swap_job::{Job, Purpose};
 use swap_offer::read_header;
 
-/// The job of a header line, or the first reason against it. It states no strategy.
-#[tactic(auto, unfolding(crate::specs::Header::header_read))]
-pub(crate) fn read_job(alloc: Global, line: &[u8]) -> Result<Job, HeaderFault>
-    ensures exact { Gives (λ j. j) result (header_read line.now) }
+/// The job of a header line of that number, as a transcript has it, or the first reason against it.
+/// The line states no strategy.
+#[tactic(auto, unfolding(crate::specs::Header::parse_deal_header))]
+pub fn parse_deal_header(alloc: Global, number: u32, line: &[u8]) -> Result<Job, HeaderFault>
+    ensures exact { Gives (λ j. j) result (parse_deal_header number line.now) }
     ensures told { IfOk result IsTranscriptJob }
 {
-    let prepared = read_header(alloc, 2, line, Purpose::Audit, &[])?;
+    let prepared = read_header(alloc, number, line, Purpose::Audit, &[])?;
     Ok(prepared.job)
 }

@@ -14,6 +14,7 @@ mod reason;
 mod stage;
 mod text;
 
+pub use header::parse_deal_header;
 pub use reader::TranscriptReader;
 pub use reason::{TranscriptFault, TranscriptReason};
 pub use text::read_transcript;

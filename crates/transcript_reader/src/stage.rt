@@ -7,7 +7,7 @@ ghost use Rattle.transcript_reader.specs.Header.{header_read, IsToldStage};
 ghost use Rattle.transcript_reader.specs.Reading.{Heads, Turns};
 ghost use Rattle.transcript_reader.specs.Stages.{ledgers_stage, next_stage};
 
-use crate::header::read_job;
+use crate::header::parse_deal_header;
 use crate::reason::{TranscriptFault, TranscriptReason};
 use std::alloc::Global;
 use swap_base::{Fault, TryCopy};
@@ -37,7 +37,7 @@ fn after_header(alloc: Global, line: &[u8]) -> Result<Stage, TranscriptFault>
     ensures heads { Heads result (header_read line.now) }
     ensures told { IfOk result IsToldStage }
 {
-    match read_job(alloc, line) {
+    match parse_deal_header(alloc, 2, line) {
         Ok(job) => Ok(Stage::Ledgers(BookReader::new(alloc, job)?)),
         Err(Fault::Refused(refusal)) => Err(Fault::Refused(TranscriptReason::Header(refusal))),
         Err(Fault::NoMemory) => Err(Fault::NoMemory),

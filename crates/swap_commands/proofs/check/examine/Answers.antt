@@ -10,18 +10,18 @@ use Rattle.swap_commands.proofs.check.examine.Goals as goal
 pub skip_events-requires-clause-fits : goal.skip_events-requires-clause-fits
 skip_events-requires-clause-fits g c = c.in_ok-job.ensures.line.stands.fits
 
-pub returns-in_err-job-clause-stops : goal.returns-in_err-job-clause-stops
-returns-in_err-job-clause-stops g c =
+pub returns-in_err-job-clause-reads : goal.returns-in_err-job-clause-reads
+returns-in_err-job-clause-reads g c =
     let p = err_from_is_err_and c.from_residual.result c.from_residual.ensures.1 in
     rw (p.1, p.2) (c.in_err-job.ensures.stops Check refl)
 
-pub returns-in-Ok-clause-checked : goal.returns-in-Ok-clause-checked
-returns-in-Ok-clause-checked g c =
+pub returns-in-Ok-clause-reads : goal.returns-in-Ok-clause-reads
+returns-in-Ok-clause-reads g c =
     is_read _ purposes.Check (λ job. folded_events skipped_event job 0 tt) _ _ _ _ c.in_ok-job.field-0.job tt c.in_ok-job.ensures.line c.in_ok-job.ensures.header
     c.in-Ok.ensures.exact
 
-pub returns-in-Err-clause-stops : goal.returns-in-Err-clause-stops
-returns-in-Err-clause-stops g c =
+pub returns-in-Err-clause-reads : goal.returns-in-Err-clause-reads
+returns-in-Err-clause-reads g c =
     let job = c.in_ok-job.field-0.job in
     let mid = desk (g.S.Source.left c.first_line.new.source) (g.S.Source.faults c.first_line.new.source) c.first_line.new.input in
     let now = desk (g.S.Source.left c.skip_events.new.source) (g.S.Source.faults c.skip_events.new.source) c.skip_events.new.input in

@@ -12,16 +12,16 @@ lines-init g c = record { led = led_none _ _ _ c.requires.fits; few = omega arit
 pub next-requires : goal.next-requires
 next-requires g c = c.lines.invariant.led.stands.fits
 
-pub returns-in_err-next-clause-stops : goal.returns-in_err-next-clause-stops
-returns-in_err-next-clause-stops g c =
+pub returns-in_err-next : goal.returns-in_err-next
+returns-in_err-next g c =
     let now = desk (g.S.Source.left c.next.new.source) (g.S.Source.faults c.next.new.source) c.next.new.self in
     let p = err_from_is_err_and c.from_residual.result c.from_residual.ensures.1 in
     rw (p.1, p.2)
     (led_stops _ _ _ (λ bytes reason. copied 0 c.args.text.now.items (ahead c.args.input.now bytes) ≡ Err reason)
     _ now _ _ c.lines.invariant.led c.in_err-next.field-0.0 c.in_err-next.ensures.fails)
 
-pub returns-in_err-count-clause-stops : goal.returns-in_err-count-clause-stops
-returns-in_err-count-clause-stops g c =
+pub returns-in_err-count : goal.returns-in_err-count
+returns-in_err-count g c =
     let now = desk (g.S.Source.left c.next.new.source) (g.S.Source.faults c.next.new.source) c.next.new.self in
     let p = err_from_is_err_and c.from_residual-in_err-count.result c.from_residual-in_err-count.ensures.1 in
     rw (p.1, p.2)
@@ -43,6 +43,6 @@ lines-smaller g c =
     let line = line_of _ _ _ c.if-branch.true c.in_ok-next.ensures.gives in
     omega (arith, line.counted, line.few)
 
-pub returns-clause-exact : goal.returns-clause-exact
-returns-clause-exact g c =
+pub returns : goal.returns
+returns g c =
     led_to_end _ _ _ (λ y. y) copied_none _ _ _ _ c.lines.invariant.led (last_run _ _ _ c.if-branch.false c.in_ok-next.ensures.gives)

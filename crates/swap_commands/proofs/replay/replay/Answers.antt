@@ -23,26 +23,26 @@ walk-requires-clause-can g c = record {
   held = c.requires.held;
 }
 
-pub returns-in_err-world-clause-stops : goal.returns-in_err-world-clause-stops
-returns-in_err-world-clause-stops g c =
+pub returns-in_err-world-clause-reads : goal.returns-in_err-world-clause-reads
+returns-in_err-world-clause-reads g c =
     let first = desk (g.S.Source.left c.args.source.now) (g.S.Source.faults c.args.source.now) c.args.input.now in
     let p = err_from_is_err_and c.from_residual.result c.from_residual.ensures.1 in
     rw (p.1, p.2) (no_memory_after first first [] (stands_none first c.requires.fits))
 
-pub returns-in_err-walk-clause-stops : goal.returns-in_err-walk-clause-stops
-returns-in_err-walk-clause-stops g c =
+pub returns-in_err-walk-clause-reads : goal.returns-in_err-walk-clause-reads
+returns-in_err-walk-clause-reads g c =
     let job = c.args.job.now in
     let now = desk (g.S.Source.left c.walk.new.source) (g.S.Source.faults c.walk.new.source) c.walk.new.input in
     let p = err_from_is_err_and c.from_residual-in_err-walk.result c.from_residual-in_err-walk.ensures.1 in
     rw (p.1, p.2)
     (stops_as (λ bytes r. lines_told (limited_event job) 0 (ahead c.args.input.now bytes) ≡ Err r)
     (λ bytes r. folded_events skipped_event job 0 tt (ahead c.args.input.now bytes) ≡ Err r)
-    (λ bytes r e. replayed_refused skipped_event job tt (ahead c.args.input.now bytes) r e) _ now _ c.in_err-walk.ensures.stops)
+    (λ bytes r e. replayed_refused skipped_event job tt (ahead c.args.input.now bytes) r e) _ now _ c.in_err-walk.ensures.reads)
 
-pub returns-clause-exact : goal.returns-clause-exact
-returns-clause-exact g c = λ a x.
+pub returns-clause-reads : goal.returns-clause-reads
+returns-clause-reads g c = λ a x.
     let job = c.args.job.now in
-    let k = c.in_ok-walk.ensures.walked in
+    let k = c.in_ok-walk.ensures.reads in
     ends_as (λ bytes. lines_told (limited_event job) 0 (ahead c.args.input.now bytes) ≡ Ok k.events)
     (λ bytes. folded_events (step (command_cast a job)) job 0 (start (job_cast job)) (ahead c.args.input.now bytes) ≡ Ok c.walk.new.walker.state)
     (λ bytes e. leads_to (g.A.Strategies.gives c.args.strategies.now) job c.in_ok-world.world c.walk.new.walker c.in_ok-world.ensures.new k.events k.stepped a x
@@ -51,7 +51,7 @@ returns-clause-exact g c = λ a x.
 
 pub returns-clause-asked : goal.returns-clause-asked
 returns-clause-asked g c =
-    let k = c.in_ok-walk.ensures.walked in
+    let k = c.in_ok-walk.ensures.reads in
     has_asked (g.A.Strategies.gives c.args.strategies.now) c.args.job.now c.in_ok-world.world c.walk.new.walker c.in_ok-world.ensures.new k.events k.stepped
 
 pub returns-clause-of : goal.returns-clause-of

@@ -7,7 +7,7 @@ use Rattle.command_input.proofs.Streams.{stops_as}
 use Rattle.swap_commands.specs.Replay.{folded_events, skipped_event}
 use Rattle.swap_commands.specs.Walk.{lines_told}
 use Rattle.swap_commands.proofs.Replays.{replayed_refused, skipped_told}
-use Rattle.swap_commands.proofs.Walks.{ends_as}
+use Rattle.swap_commands.proofs.Walks.{ends_as, has_walked, walk_stopped}
 use Rattle.swap_commands.proofs.replay.skip_events.Goals as goal
 
 pub returns-clause-exact : goal.returns-clause-exact
@@ -17,7 +17,7 @@ returns-clause-exact g c =
     (λ k. ends_as (λ bytes. lines_told (limited_event job) 0 (ahead c.args.input.now bytes) ≡ Ok k.events)
     (λ bytes. folded_events skipped_event job 0 tt (ahead c.args.input.now bytes) ≡ Ok tt)
     (λ bytes e. skipped_told job (ahead c.args.input.now bytes) k.events e) _ _ k.are_told)
-    c.walk.ensures.walked
+    (has_walked _ _ _ _ c.walk.result c.walk.ensures.reads)
 
 pub returns-clause-stops : goal.returns-clause-stops
 returns-clause-stops g c =
@@ -27,4 +27,4 @@ returns-clause-stops g c =
     (λ f h. stops_as (λ bytes r. lines_told (limited_event job) 0 (ahead c.args.input.now bytes) ≡ Err r)
     (λ bytes r. folded_events skipped_event job 0 tt (ahead c.args.input.now bytes) ≡ Err r)
     (λ bytes r e. replayed_refused skipped_event job tt (ahead c.args.input.now bytes) r e) _ now f h)
-    c.walk.ensures.stops
+    (walk_stopped _ _ _ _ c.walk.result c.walk.ensures.reads)

@@ -12,16 +12,16 @@ lines-init g c = record { on = none_yet _ _ _ _ c.requires.fits; can = c.require
 pub next-requires : goal.next-requires
 next-requires g c = c.lines.invariant.on.led.stands.fits
 
-pub returns-in_err-next-clause-stops : goal.returns-in_err-next-clause-stops
-returns-in_err-next-clause-stops g c =
+pub returns-in_err-next-clause-reads : goal.returns-in_err-next-clause-reads
+returns-in_err-next-clause-reads g c =
     let now = desk (g.S.Source.left c.next.new.source) (g.S.Source.faults c.next.new.source) c.next.new.self in
     let p = err_from_is_err_and c.from_residual.result c.from_residual.ensures.1 in
     rw (p.1, p.2)
     (led_stops _ _ _ (λ bytes r. lines_told (g.W.Walker.told c.args.context) 0 (ahead c.args.input.now bytes) ≡ Err r)
     _ now _ _ c.lines.invariant.on.led c.in_err-next.field-0.0 c.in_err-next.ensures.fails)
 
-pub returns-in_err-take-clause-stops : goal.returns-in_err-take-clause-stops
-returns-in_err-take-clause-stops g c =
+pub returns-in_err-take-clause-reads : goal.returns-in_err-take-clause-reads
+returns-in_err-take-clause-reads g c =
     let now = desk (g.S.Source.left c.next.new.source) (g.S.Source.faults c.next.new.source) c.next.new.self in
     let p = err_from_is_err_and c.from_residual-in_err-take.result c.from_residual-in_err-take.ensures.1 in
     rw (p.1, p.2)
@@ -51,5 +51,5 @@ lines-smaller g c =
 pub returns-clause-can : goal.returns-clause-can
 returns-clause-can g c = c.lines.invariant.can
 
-pub returns-clause-walked : goal.returns-clause-walked
-returns-clause-walked g c = is_walked _ _ _ _ _ _ _ _ c.lines.invariant.on (last_run _ _ _ c.if-branch.false c.in_ok-next.ensures.gives)
+pub returns-clause-reads : goal.returns-clause-reads
+returns-clause-reads g c = is_walked _ _ _ _ _ _ _ _ c.lines.invariant.on (last_run _ _ _ c.if-branch.false c.in_ok-next.ensures.gives)

@@ -34,8 +34,8 @@ invariant_of-self c =
       wallets_room = omega (arith, k.wallets_room, c.push-3.ensures.capacity);
       chains = record { few = k.chains.few; each = k.chains.each; chains = k.chains.chains };
       swaps = rw (jobs, chains) (swaps_more (inside_many_job h) job c.args.chains k.swaps few swap);
-      next = λ before waiting is. absurd (cc (sym words ∙ is));
-      below = λ before waiting is. absurd (cc (sym words ∙ is));
+      next = λ before is. absurd (cc (sym words ∙ is));
+      below = λ before is. absurd (cc (sym words ∙ is));
       some = λ is. omega (arith, longer, one_more);
       each_wallets =
           omega (arith, longer, one_more, ap length wallets, length-append h.wallets.items (c.args.swap.wallets ∷ []), k.each_wallets);
