@@ -13,8 +13,8 @@ use Rattle.party_rows.specs.Keys.{deal_output, keys_output}
 use Rattle.party_rows.specs.Offer.{parse_offer}
 use Rattle.party_rows.specs.Row.{row_line, seeded_row}
 
--- A plain offer's line: it holds no line feed, and it proposes the job as the first line, where
--- `deal` reads it, and as the second line, where `keys` reads it behind the line of a seed.
+-- A plain offer's line. It holds no line feed, and it proposes the job both as the first line,
+-- which `deal` reads, and as the second line, which `keys` reads behind the line of a seed.
 pub record IsOfferLine (offer : List ℕ) (job : Job) : Type 0 where
   pub one_line : list_all (λ x. not (x == 10)) offer ≡ true
   pub reads : parse_offer 1 offer ≡ Ok job
@@ -57,8 +57,9 @@ pub record IsEachPartyOnce (n : ℕ) (order : List ℕ) : Type 0 where
 abbrev pub deal_input : List ℕ → (ℕ → List ℕ) → List ℕ → List ℕ
 deal_input offer rows order = (offer ++ 10 ∷ []) ++ flat_map rows order
 
--- Of an offer and the rows that `keys` writes of the parties' seeds, in any order, `deal` writes
--- the header line of the job that is made of the offer with these seeds, as a transcript shows it.
+-- Given an offer and the rows that `keys` writes of the parties' seeds, in any order, `deal` writes
+-- a header line. It is that of the job that is made of the offer with these seeds, as a transcript
+-- shows it.
 abbrev pub DealsOfRowsAreMade : Type 0
 DealsOfRowsAreMade =
     (offer : List ℕ) (job : Job) (seeds : List (Option (List ℕ))) (order : List ℕ) (rows : ℕ → List ℕ)

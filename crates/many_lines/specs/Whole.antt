@@ -37,7 +37,7 @@ pub record AreBoundedChains (many : ManyJob) : Type 0 where
   pub each : length many.units ≡ length many.names
   pub chains : (i : ℕ) → i < length many.names → IsBoundedChain (slice_index_or many.names i []) (slice_index_or many.units i [])
 
--- the strategies of every swap are had
+-- the program has the strategies of every swap
 abbrev pub HoldsEverySwap : (List ℕ → Bool) → ManyJob → Type 0
 HoldsEverySwap has many = (s : ℕ) → s < length many.jobs → HoldsEach has (job_of_swap many.jobs s).roles
 

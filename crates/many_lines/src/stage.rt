@@ -6,7 +6,7 @@ use swap_job::Finish;
 /// The line before a swap's header.
 #[derive(Debug, Drop)]
 pub struct SwapLine {
-    /// Its number.
+    /// The line's number.
     pub number: u32,
     /// The chains of the swap's arcs.
     pub chains: Listed<u8>,

@@ -99,8 +99,8 @@ resolve_numbers line names h = do
   leaders ← steps (leader_step line names) [] h.leaders
   Ok (record { names = names; arcs = arcs; leaders = leaders })
 
--- the names in their order, each with that of the party's strategy or those in its script, which
--- are among all, and then what has numbers
+-- the names in their order, and then what has numbers. Each party's strategy is a name that is
+-- held, and the names in its script are among all.
 abbrev pub assign_checked_numbers : (List ℕ → Bool) → ℕ → List (List ℕ) → RawHeader → Result Numbered Reason
 assign_checked_numbers has line all h = do
   names ← steps (name_step has line all) [] h.parties

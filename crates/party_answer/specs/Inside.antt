@@ -38,8 +38,8 @@ calls_text a k ts =
 abbrev pub AreMeasured : Deal → List Action → Type 0
 AreMeasured d xs = (x : Action) → IsElement x xs → (x.arc < length d.graph.arcs) × IsShort x.call
 
--- What is asked is of a party of an accepted deal whose seed it is, over ledgers that did what is
--- told of them; and every hashkey that was kept opens its lock.
+-- What is asked fits: the deal is accepted, the seed is that of one of its parties, the ledgers
+-- that are told are legal, and every hashkey that was kept opens its lock.
 pub record IsWellAsked (seed : List ℕ) (a : Asked) : Type 0 where
   pub accepted : IsAccepted a.deal
   pub sized : IsWellSized a.deal

@@ -89,9 +89,9 @@ pub record IsPromisedAnswer (asks : Result PartyQuestion AnswerReason) (answer :
   -- each publish that is landing is useful, and was sent
   pub landing : (a : ℕ) → IsElement (Landing a) (answered_lines question)
       → (x : Action) × IsElement x (useful_actions question (known question)) × (was_sent (was_published question) x ≡ true) × (x.arc ≡ a)
-  -- nothing that may is left out but publishes that were sent, calls that can only hurt the party,
-  -- and unlocks for a lock with an unlock in its name that it never made; of another lock for which
-  -- a hashkey may be kept it has one
+  -- only three kinds of calls that may go out are left out: publishes that were sent, calls that
+  -- can only hurt the party, and unlocks for a lock with an unlock in the party's name that it
+  -- never made. For each other lock for which a hashkey may be kept it has such a hashkey.
   pub all : (x : Action) → MayBeMade question x → was_sent (was_published question) x ≡ false
       → IsElement (Present (own_timed question x)) (answered_lines question) ⊎ IsLeftOutAction question x
   pub each : (key : Hashkey) (may : MayBeKept question key)
@@ -99,8 +99,8 @@ pub record IsPromisedAnswer (asks : Result PartyQuestion AnswerReason) (answer :
   -- where the told ledgers say enough of some histories, the same actions are useful over these, so
   -- noise may be left out
   pub heard : (h : Histories) → SayEnough question.deal question.me (known question) h → useful_actions question h ≡ useful_actions question (known question)
-  -- where nothing is useful, or nothing is answered, that stays so as a ledger ticks on, up to the
-  -- height at which rest ends
+  -- where nothing is useful, or nothing is answered, ticks of a ledger change nothing of that up to
+  -- the height at which rest ends
   pub rest : (a : ℕ) (more : List Entry) → useful_actions question (known question) ≡ [] → are_ticks more ≡ true
       → IsWithinRest (rest_deadline question.deal question.me (known question)) (height (history (known question) a ++ more))
       → useful_actions question (with_more question a more) ≡ []
@@ -113,17 +113,17 @@ pub record IsPromisedAnswer (asks : Result PartyQuestion AnswerReason) (answer :
       → ContinuesWithoutParty question.me (known question) h → answerable question h ≡ []
   -- it tells what is due, or that nothing is
   pub never_empty : due_text question ≢ []
-  -- each height in it is the last at which the call is on time, or the last at which the contract
-  -- accepts the hashkey
+  -- each height in it is the last one for a call to be on time, or the last one for a contract to
+  -- accept a hashkey
   pub by : (t : Timed) → IsElement t (answered_calls question) → HasHeight question.deal (known question) question.me (kept_keys question) (untimed t) t.last
   pub until : (t : Timed) (key : Hashkey) → IsElement t (answered_calls question) → t.call ≡ Unlock key → HasLastHeight question t key
 
--- The answer is that to a text whose first line has that number, for the party of that name with
--- that seed.
+-- The answer keeps its promise to the party of that name and seed, over a text whose first line has
+-- that number.
 abbrev pub IsTextAnswer : ℕ → List ℕ → List ℕ → List ℕ → Answer → Type 0
 IsTextAnswer first name seed text answer = IsPromisedAnswer (asked first name seed text) answer
 
--- where what stands in the text isn't what was agreed on, nothing is answered but that
+-- where the text's deal isn't the one that was agreed on, the answer says only this
 abbrev pub NeedsAgreement : ℕ → List ℕ → Result Answer (Fault AnswerReason) → Type 0
 NeedsAgreement first text result =
     (s : SaidState) (rest : List (List ℕ)) → text_said first text ≡ Ok (s, rest) → s.told ≢ s.agreed.digest

@@ -185,9 +185,9 @@ fn answer_lines(
     }
 }
 
-/// All that is useful to the party of that name with that seed, a line each, by a text whose first
-/// line has that number in the input: the digest that was agreed on, what its wallet wrote down,
-/// the deal, and what each ledger did as far as it was told.
+/// All that is useful to a party, a line each, by its name, its seed and a text. The text has the
+/// digest that was agreed on, what the party's wallet wrote down, the deal, and what each ledger
+/// did as far as it was told. Its first line has that number in the input.
 pub fn answer(
     alloc: Global,
     first: u32,

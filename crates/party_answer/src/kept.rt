@@ -162,10 +162,10 @@ fn add_notes(
     Ok(())
 }
 
-/// What a party's notes keep. The first note stands on the line of that number. The answer is the
-/// first bad line where a note is of a hashkey that the party can't have kept (of no lock of the
-/// deal, another one for a lock that has one, or one that opens nothing, as a torn line's), or of a
-/// publish on an arc that doesn't leave the party.
+/// What a party's notes keep. The first note stands on the line of that number. A note is refused
+/// by its line if the party can't have made it: its hashkey is for no lock of the deal, is another
+/// one for a lock that has one, or opens nothing, as a torn line's; or its publish is on an arc
+/// that doesn't leave the party.
 #[tactic(auto, unfolding(crate::specs::Kept::notes_kept))]
 pub fn notes_kept(
     alloc: Global,

@@ -19,8 +19,8 @@ use std::alloc::Global;
 use swap_base::{NoMemory, PartyId};
 use swap_digraph::Deal;
 
-/// All calls that are useful to the party with that seed, in their order, with the hashkeys that it
-/// kept, but for the unlocks for stopped locks. A hashkey is signed where an unlock with it is
+/// All calls that are useful to the party with that seed and the hashkeys that it kept, in their
+/// order. Unlocks for stopped locks are left out. A hashkey is signed where an unlock with it is
 /// useful, its lock isn't stopped, and none was kept for it.
 #[tactic(auto, unfolding(answer_rules::specs::Stopped::useful_unless_stopped))]
 pub fn all_useful(

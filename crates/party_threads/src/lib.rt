@@ -20,6 +20,7 @@ mod first_turns;
 mod gate;
 mod handing;
 mod home;
+mod hooks;
 mod laws;
 mod machine_turn;
 mod planner_turn;
@@ -31,5 +32,6 @@ mod turn;
 mod watching;
 
 pub use gate::Gate;
+pub use hooks::Hooks;
 pub use laws::rest_shows_in_calls;
 pub use rounds::{race, race_fitting};

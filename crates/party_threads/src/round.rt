@@ -86,14 +86,14 @@ fn take_turns<R: Threads + Wait + Sync, A: Strategies + Sync, G: Gate>(
     requires some { 1 ≤ setting.now.ticks }
     requires below { setting.now.ticks ≤ 1000 }
     requires seated { (i : ℕ) (t : Turn) → i < length turns.old
-        → IsSeated (A.holds setting.now.strategies.now) setting.now.job.now ledgers.now setting.now.ticks i (slice_index_or turns.old i t) }
+        → IsSeated (A.holds setting.now.hooks.strategies.now) setting.now.job.now ledgers.now setting.now.ticks i (slice_index_or turns.old i t) }
     ensures took { (i : ℕ) (t : Turn) → i < length turns.old
-        → Took (A.gives setting.now.strategies.now) setting.now.job.now setting.now.ticks i (slice_index_or turns.old i t) (slice_index_or turns.new i t) }
+        → Took (A.gives setting.now.hooks.strategies.now) setting.now.job.now setting.now.ticks i (slice_index_or turns.old i t) (slice_index_or turns.new i t) }
     ensures number { length turns.new ≡ length turns.old }
 {
     let job = setting.job;
-    let strategies = setting.strategies;
-    let gate = setting.gate;
+    let strategies = setting.hooks.strategies;
+    let gate = setting.hooks.gate;
     let ticks = setting.ticks;
     thread::for_each_mut(
         rt,
@@ -135,10 +135,10 @@ pub(crate) fn round<R: Threads + Wait + Sync, A: Strategies + Sync, G: Gate>(
     requires some { 1 ≤ setting.now.ticks }
     requires below { setting.now.ticks ≤ 1000 }
     requires stands { StandsHome setting.now.job.now ledgers.old turns.old }
-    requires held { AreHeld (A.holds setting.now.strategies.now) setting.now.job.now.roles }
+    requires held { AreHeld (A.holds setting.now.hooks.strategies.now) setting.now.job.now.roles }
     requires room { AllHaveRoom setting.now.ticks setting.now.job.now.deal (race_book ledgers.old) }
     ensures stands { OnOk result (StandsHome setting.now.job.now ledgers.new turns.new) }
-    ensures round { OnOk result (IsRound (A.gives setting.now.strategies.now) (job_cast setting.now.job.now) setting.now.ticks
+    ensures round { OnOk result (IsRound (A.gives setting.now.hooks.strategies.now) (job_cast setting.now.job.now) setting.now.ticks
         (race_state setting.now.job.now ledgers.old turns.old) (race_state setting.now.job.now ledgers.new turns.new)) }
 {
     let deal = &setting.job.deal;

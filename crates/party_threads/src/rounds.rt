@@ -14,6 +14,7 @@ ghost use Rattle.party_threads.specs.Standing.{StandsHome, race_book, home_histo
 use crate::first_turns::new_turns;
 use crate::gate::Gate;
 use crate::home::Home;
+use crate::hooks::Hooks;
 use crate::round::round;
 use crate::setting::Setting;
 use crate::turn::Turn;
@@ -116,9 +117,9 @@ fn run_rounds<R: Threads + Wait + Sync, A: Strategies + Sync, G: Gate>(
     requires some { 1 ≤ setting.now.ticks }
     requires below { setting.now.ticks ≤ 1000 }
     requires stands { StandsHome setting.now.job.now ledgers.old turns.old }
-    requires held { AreHeld (A.holds setting.now.strategies.now) setting.now.job.now.roles }
+    requires held { AreHeld (A.holds setting.now.hooks.strategies.now) setting.now.job.now.roles }
     requires first { race_state setting.now.job.now ledgers.old turns.old ≡ start (job_cast setting.now.job.now) }
-    ensures raced { OnOk result (IsRaced (A.gives setting.now.strategies.now) (job_cast setting.now.job.now) setting.now.ticks
+    ensures raced { OnOk result (IsRaced (A.gives setting.now.hooks.strategies.now) (job_cast setting.now.job.now) setting.now.ticks
         (needed_rounds setting.now.job.now.deal setting.now.ticks) (race_state setting.now.job.now ledgers.new turns.new)) }
 {
     // In the first round everybody may have something to do.
@@ -133,34 +134,32 @@ fn run_rounds<R: Threads + Wait + Sync, A: Strategies + Sync, G: Gate>(
 }
 
 /// Races a job whose wallets are right. In each round every party and the clock have a turn. Each
-/// turn has a thread of its own, or shares one after a round with few calls. `strategies` answers
-/// for each party that follows a strategy. The race waits for locks and at the gate.
+/// turn has a thread of its own, or shares one after a round with few calls. The race waits for
+/// locks and at the gate.
 pub fn race_fitting<R: Threads + Wait + Sync, A: Strategies + Sync, G: Gate>(
     rt: &R,
     alloc: Global,
     job: &Job,
-    strategies: &A,
     wallets: Vec<Option<Wallet>>,
     ticks: u32,
-    gate: &G,
+    hooks: Hooks<'_, A, G>,
 ) -> Result<Book, NoMemory>
     requires accepted { IsAccepted job.now.deal }
     requires seeds { ConformingHaveSeeds job.now }
     requires roles { HaveRoles job.now }
-    requires held { AreHeld (A.holds strategies.now) job.now.roles }
+    requires held { AreHeld (A.holds hooks.strategies.now) job.now.roles }
     requires wallets { wallets.items ≡ new_wallets job.now.deal job.now.conforming job.now.seeds }
     requires fit { AllFit job.now }
     requires some { 1 ≤ ticks }
     requires below { ticks ≤ 1000 }
-    ensures { IfOk result (λ b. IsRaceBook (A.gives strategies.now) (job_cast job.now) ticks b.histories) }
+    ensures { IfOk result (λ b. IsRaceBook (A.gives hooks.strategies.now) (job_cast job.now) ticks b.histories) }
 {
     let mut turns = new_turns(alloc, job, wallets)?;
     let mut ledgers = make_ledgers(alloc, &job.deal)?;
     let setting = Setting {
         alloc,
         job,
-        strategies,
-        gate,
+        hooks,
         ticks,
     };
     run_rounds(rt, &setting, ledgers.as_mut_slice(), turns.as_mut_slice())?;
@@ -175,24 +174,23 @@ pub fn race<R: Threads + Wait + Sync, A: Strategies + Sync, G: Gate>(
     rt: &R,
     alloc: Global,
     job: &Job,
-    strategies: &A,
     wallets: Vec<Option<Wallet>>,
     ticks: u32,
-    gate: &G,
+    hooks: Hooks<'_, A, G>,
 ) -> Result<Book, WorldFault>
     requires accepted { IsAccepted job.now.deal }
     requires seeds { ConformingHaveSeeds job.now }
     requires roles { HaveRoles job.now }
-    requires held { AreHeld (A.holds strategies.now) job.now.roles }
+    requires held { AreHeld (A.holds hooks.strategies.now) job.now.roles }
     requires wallets { wallets.items ≡ new_wallets job.now.deal job.now.conforming job.now.seeds }
     requires some { 1 ≤ ticks }
     requires below { ticks ≤ 1000 }
-    ensures book { IfOk result (λ b. IsRaceBook (A.gives strategies.now) (job_cast job.now) ticks b.histories) }
+    ensures book { IfOk result (λ b. IsRaceBook (A.gives hooks.strategies.now) (job_cast job.now) ticks b.histories) }
     ensures fit { OnOk result (AllFit job.now) }
     ensures wrong { IfErr result (IsFirstWrongFault job.now) }
 {
     match wrong_wallet(job, &wallets) {
         Some(wrong) => Err(Fault::Refused(wrong)),
-        None => Ok(race_fitting(rt, alloc, job, strategies, wallets, ticks, gate)?),
+        None => Ok(race_fitting(rt, alloc, job, wallets, ticks, hooks)?),
     }
 }

@@ -42,11 +42,11 @@ reads_jobs _ = false
 abbrev pub told_job : Purpose → Job → Job
 told_job purpose plain = record (made plain) { purpose = purpose }
 
--- the strategies that are had have texts for their names
+-- each name of a strategy that the program has is a text
 abbrev pub HasTexts : (List ℕ → Bool) → Type 0
 HasTexts has = (name : List ℕ) → has name ≡ true → IsUtf8 name
 
--- Those of the program have.
+-- The names of the program's strategies are texts.
 abbrev pub ProgramHasTexts : Type 0
 ProgramHasTexts = HasTexts (has_strategy program_names)
 
@@ -114,8 +114,9 @@ MadeHeaderIsReadBack =
 abbrev pub with_job : Job → Result (List Event) Reason → Result (Job × List Event) Reason
 with_job job read = read >>= λ events. Ok (job, events)
 
--- An input is a plain job. The text that is written of it is read as the made job, with the events
--- of the further lines as they stood, or with the first reason against one of these.
+-- An input is a plain job. The text that is written of it is read as the made job with the events
+-- of the further lines as they stood, or is refused for the first reason against one of these
+-- lines.
 pub record IsReadBack (has : List ℕ → Bool) (purpose : Purpose) (input output : List ℕ) : Type 0 where
   pub plain : Job
   pub is_plain : parse_job has Make input ≡ Ok (plain, [])

@@ -2,7 +2,7 @@
 #![tactic(auto)]
 
 use command_input::collect_words;
-use party_threads::Gate;
+use party_threads::{Gate, Hooks};
 use std::alloc::Global;
 use std::process::ExitCode;
 use std::sync::Wait;
@@ -32,15 +32,11 @@ fn main(rt: HostRuntime) -> ExitCode {
             let mut sink = WriterSink::new(io::writer(&rt));
             let strategies = Program { alloc: rt.alloc() };
             if may_race(&words) {
-                swap_top(
-                    &rt,
-                    rt.alloc(),
-                    &words,
-                    &mut source,
-                    &mut sink,
-                    &OpenGate,
-                    &strategies,
-                )
+                let hooks = Hooks {
+                    strategies: &strategies,
+                    gate: &OpenGate,
+                };
+                swap_top(&rt, rt.alloc(), &words, &mut source, &mut sink, hooks)
             } else {
                 swap_plain(rt.alloc(), &words, &mut source, &mut sink, &strategies)
             }

@@ -9,7 +9,7 @@ use Rattle.command_input.specs.Faults.{of_offer}
 use Rattle.command_input.specs.Input.{CanBeLeft, Desk, Ends, Fits, IsLast, IsLine, Stops, Tells, ahead}
 use Rattle.command_input.proofs.Streams.{IsStepAt, Led, led_none, led_on_at, led_to_end, led_to_fault_at, stops_as}
 use Rattle.command_input.specs.declared.fault.InputFault.{InputFault}
-use Rattle.swap_commands.specs.Walk.{HasTakenEvent, IsWalked, Reads, lines_told}
+use Rattle.swap_commands.specs.Walk.{HasTakenEvent, IsWalked, ReadsOrStops, lines_told}
 
 -- What is said of an input that was read to its end.
 
@@ -29,12 +29,12 @@ tells_all P s t e met =
 -- What a walk says, whatever it answered.
 
 pub has_walked : {T R : Type 0} (P : Desk → Desk → Type 0) (Q : List ℕ → R → Type 0) (s t : Desk) (answer : Result T (InputFault R))
-    → Reads (λ _. P) Q s t answer → OnOk answer (P s t)
+    → ReadsOrStops (λ _. P) Q s t answer → OnOk answer (P s t)
 has_walked P Q s t (Ok x) h = h
 has_walked P Q s t (Err fault) h = tt
 
 pub walk_stopped : {T R : Type 0} (P : Desk → Desk → Type 0) (Q : List ℕ → R → Type 0) (s t : Desk) (answer : Result T (InputFault R))
-    → Reads (λ _. P) Q s t answer → IfErr answer (Stops Q s t)
+    → ReadsOrStops (λ _. P) Q s t answer → IfErr answer (Stops Q s t)
 walk_stopped P Q s t (Ok x) h = tt
 walk_stopped P Q s t (Err fault) h = h
 

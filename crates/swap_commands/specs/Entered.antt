@@ -3,12 +3,12 @@ use Rattle.std.specs.Prelude.{◌≡◌, ◌≤◌, ℕ, Bool, List, length, Opt
 use Rattle.std.specs.Io.KnownBytes.{Consumes, IsAtEnd}
 use Rattle.swap_job.specs.declared.job.Job.{Job}
 use Rattle.swap_job.specs.declared.job.Purpose.TheVariants as purposes
-use Rattle.party_wallet.specs.Value.{WalletState}
 use Rattle.party_wallet.specs.Wallets.{new_wallets}
 use Rattle.swap_rules.specs.Accepted.{IsAccepted}
 use Rattle.offer_header.specs.Names.{AreNames}
 use Rattle.swap_offer.specs.Job.{IsWholeJob}
 use Rattle.swap_offer.specs.Wallets.{HaveScripts, HaveWallets}
+use Rattle.swap_offer.specs.declared.prepared.Prepared.{Prepared}
 use Rattle.swap_world.specs.Actors.{AreHeld}
 use Rattle.refusals.specs.declared.refusal.Refusal.{Refusal}
 use Rattle.command_input.specs.Input.{InputProgress, HasStopped, desk, fresh, limit}
@@ -17,17 +17,17 @@ use Rattle.swap_commands.specs.Replay.{IsEntered}
 use Rattle.swap_commands.specs.Says.{IsCommandRefusal}
 use Rattle.swap_commands.specs.Words.{OfJob, Race}
 
--- The parties of the job can race: those that conform with these wallets, and those that follow
--- strategies of the names that are had.
-pub record CanRace (has : List ℕ → Bool) (job : Job) (wallets : List (Option WalletState)) : Type 0 where
-  pub whole : IsWholeJob job
-  pub names : AreNames job.names
-  pub purpose : job.purpose ≡ purposes.Race
-  pub accepted : IsAccepted job.deal
-  pub held : AreHeld has job.roles
-  pub scripts : HaveScripts job
-  pub fit : HaveWallets job
-  pub made : wallets ≡ new_wallets job.deal job.conforming job.seeds
+-- A prepared job can race: its conforming parties have its wallets, and the names of its strategies
+-- are known.
+pub record CanRace (has : List ℕ → Bool) (p : Prepared) : Type 0 where
+  pub whole : IsWholeJob p.job
+  pub names : AreNames p.job.names
+  pub purpose : p.job.purpose ≡ purposes.Race
+  pub accepted : IsAccepted p.job.deal
+  pub held : AreHeld has p.job.roles
+  pub scripts : HaveScripts p.job
+  pub fit : HaveWallets p.job
+  pub made : p.wallets.items ≡ new_wallets p.job.deal p.job.conforming p.job.seeds
 
 -- The whole input was read, and it is the job of a race.
 pub record HasEntered (has : List ℕ → Bool) (left left' : Option (List ℕ)) (job : Job) : Type 0 where

@@ -12,8 +12,8 @@ use Rattle.wallet_journal.specs.Held.{Held, Leaves, visible_bytes}
 use Rattle.wallet_journal.specs.Layout.{recorded}
 use Rattle.swap_run.specs.Run.{Cast, State, conforms, state_notes}
 
--- The disk of party v in a run: whatever a crash leaves of it, the hashkey of each unlock call that
--- v made, on whatever arc, is recorded for its lock, and just the hashkeys that v signed are.
+-- The disk of party v in a run. Whatever a crash leaves of it, exactly the hashkeys that v signed
+-- are recorded, and among them is the hashkey of each unlock call that v made.
 pub record IsPartyDisk (d : Deal) (s : State) (v : ℕ) (h : Held) : Type 0 where
   -- what a read gives is among what a crash may leave
   pub read : Leaves h (visible_bytes h)

@@ -37,8 +37,8 @@ pub record CanReplay (holds : List ℕ → Bool) (job : Job) (w : WorldState) : 
   pub goes_on : w.stopped ≡ false
   pub held : AreHeld holds job.roles
 
--- The world w was finished with these histories, where strategies answered so, with each answer one
--- that may be given, and the disks have recorded what the conforming parties presented.
+-- The world w was finished with these histories. Each answer of a strategy is one that it may give,
+-- and the disks have recorded what the conforming parties presented.
 pub record IsConcluded (gives : MayGive) (job : Job) (w : WorldState) (b : Histories) : Type 0 where
   pub answers : Answers
   pub continues : Continues w answers

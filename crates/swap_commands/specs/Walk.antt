@@ -24,8 +24,8 @@ pub record IsWalked {E R A : Type 0} (leads : A → E → A → Type 0) (told : 
   pub met : now.at.over ≡ true
   pub stepped : FoldsTo leads old events new
 
--- What a reading answers, from one desk to the next: what it came to, or why it stopped. P tells of
--- the one, and Q relates the bytes to a refusal, whatever comes after them.
-abbrev pub Reads : {T R : Type 0} → (T → Desk → Desk → Type 0) → (List ℕ → R → Type 0) → Desk → Desk → Result T (InputFault R) → Type 0
-Reads P Q old new (Ok x) = P x old new
-Reads P Q old new (Err fault) = Stops Q old new fault
+-- What a reading answers between two desks. P holds of its result. Where the reading stopped, Q
+-- relates the bytes to the refusal, whatever comes after them.
+abbrev pub ReadsOrStops : {T R : Type 0} → (T → Desk → Desk → Type 0) → (List ℕ → R → Type 0) → Desk → Desk → Result T (InputFault R) → Type 0
+ReadsOrStops P Q old new (Ok x) = P x old new
+ReadsOrStops P Q old new (Err fault) = Stops Q old new fault

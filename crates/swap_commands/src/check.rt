@@ -10,7 +10,7 @@ ghost use Rattle.command_input.specs.Streams.{streams};
 ghost use Rattle.swap_commands.specs.Output.{check_text, written_check};
 ghost use Rattle.swap_commands.specs.Replay.{IsChecked};
 ghost use Rattle.swap_commands.specs.Says.{CommandSays, IsCommandRefusal};
-ghost use Rattle.swap_commands.specs.Walk.{Reads};
+ghost use Rattle.swap_commands.specs.Walk.{ReadsOrStops};
 ghost use Rattle.swap_commands.specs.Words.{Check, OfJob};
 ghost use Rattle.swap_commands.specs.Strategies.{given_strategies};
 
@@ -63,7 +63,7 @@ fn examine<S: Source, A: Strategies>(
     ensures accepted { IfOk result (λ j. IsAccepted j.0.deal) }
     ensures sized { IfOk result (λ j. IsWellSized j.0.deal) }
     ensures need { IfOk result (λ j. j.1 ≡ deal_need j.0.deal) }
-    ensures reads { Reads (λ j. Ends (λ bytes. IsChecked (A.holds strategies.now) bytes j.0)) (IsCommandRefusal (A.holds strategies.now) (OfJob Check))
+    ensures reads { ReadsOrStops (λ j. Ends (λ bytes. IsChecked (A.holds strategies.now) bytes j.0)) (IsCommandRefusal (A.holds strategies.now) (OfJob Check))
         (desk (S.left source.old) (S.faults source.old) fresh) (desk (S.left source.new) (S.faults source.new) input.new) result }
 {
     let Prepared { job, need, .. } = first_line(alloc, strategies, Purpose::Check, input, source)?;

@@ -6,7 +6,7 @@ ghost use Rattle.swap_commands.specs.Cleared.{IsCleared, IsFurther};
 ghost use Rattle.command_input.specs.Input.{Ends, Fits, IsLast, IsLine, Stops, desk, fresh};
 ghost use Rattle.command_input.specs.Streams.{streams};
 ghost use Rattle.swap_commands.specs.Says.{CommandSays, IsCommandRefusal};
-ghost use Rattle.swap_commands.specs.Walk.{Reads};
+ghost use Rattle.swap_commands.specs.Walk.{ReadsOrStops};
 ghost use Rattle.swap_commands.specs.Words.{Clear};
 ghost use Rattle.swap_commands.specs.Strategies.{given_strategies};
 
@@ -48,7 +48,7 @@ fn refuse_further_line<S: Source>(
     source: &mut S,
 ) -> Result<(), InputFault<Refusal>>
     requires fits { Fits (S.left source.old) input.old }
-    ensures { Reads (λ _. IsLast) (IsFurther input.old) (desk (S.left source.old) (S.faults source.old) input.old)
+    ensures { ReadsOrStops (λ _. IsLast) (IsFurther input.old) (desk (S.left source.old) (S.faults source.old) input.old)
         (desk (S.left source.new) (S.faults source.new) input.new) result }
 {
     if !input.next(source)? {

@@ -23,4 +23,4 @@ mod walk;
 
 pub use generating::generate;
 pub use orders::run_order;
-pub use racing::{enter, race};
+pub use racing::{RaceOrder, enter, race};

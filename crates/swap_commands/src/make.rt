@@ -8,7 +8,7 @@ ghost use Rattle.command_input.specs.Streams.{streams};
 ghost use Rattle.swap_commands.specs.Output.{plain_text};
 ghost use Rattle.swap_commands.specs.Replay.{IsCopied};
 ghost use Rattle.swap_commands.specs.Says.{CommandSays, IsCommandRefusal};
-ghost use Rattle.swap_commands.specs.Walk.{Reads};
+ghost use Rattle.swap_commands.specs.Walk.{ReadsOrStops};
 ghost use Rattle.swap_commands.specs.Words.{Make, OfJob};
 ghost use Rattle.swap_commands.specs.Strategies.{given_strategies};
 
@@ -30,7 +30,7 @@ fn copy_lines<S: Source>(
     source: &mut S,
 ) -> Result<(), InputFault<Reason>>
     requires fits { Fits (S.left source.old) input.old }
-    ensures { Reads (λ _. Ends (λ bytes. copied 0 text.old.items (ahead input.old bytes) ≡ Ok text.new.items))
+    ensures { ReadsOrStops (λ _. Ends (λ bytes. copied 0 text.old.items (ahead input.old bytes) ≡ Ok text.new.items))
         (λ bytes reason. copied 0 text.old.items (ahead input.old bytes) ≡ Err reason)
         (desk (S.left source.old) (S.faults source.old) input.old) (desk (S.left source.new) (S.faults source.new) input.new) result }
 {
@@ -50,7 +50,7 @@ fn copy<S: Source, A: Strategies>(
 ) -> Result<(Job, Vec<u8>), InputFault<Refusal>>
     requires { input.old ≡ fresh }
     ensures made { IfOk result (λ c. IsMade c.0) }
-    ensures reads { Reads (λ c. Ends (λ bytes. IsCopied (A.holds strategies.now) bytes c.0 c.1.items)) (IsCommandRefusal (A.holds strategies.now) (OfJob Make))
+    ensures reads { ReadsOrStops (λ c. Ends (λ bytes. IsCopied (A.holds strategies.now) bytes c.0 c.1.items)) (IsCommandRefusal (A.holds strategies.now) (OfJob Make))
         (desk (S.left source.old) (S.faults source.old) fresh) (desk (S.left source.new) (S.faults source.new) input.new) result }
 {
     let Prepared { job, .. } = first_line(alloc, strategies, Purpose::Make, input, source)?;

@@ -15,7 +15,7 @@ ghost use Rattle.command_input.specs.Streams.{streams};
 ghost use Rattle.swap_commands.specs.Many.{kept_after_finish, headed, many_written, opened_places};
 ghost use Rattle.swap_commands.specs.ManyRead.{AreRun, CanReplayMany, HasStepped, IsHeading, IsLack, IsManyPlayed, AreOpenedWorlds, places_after_events};
 ghost use Rattle.swap_commands.specs.Says.{CommandSays, IsCommandRefusal};
-ghost use Rattle.swap_commands.specs.Walk.{Reads};
+ghost use Rattle.swap_commands.specs.Walk.{ReadsOrStops};
 ghost use Rattle.swap_commands.specs.Words.{Many};
 ghost use Rattle.swap_commands.specs.Strategies.{given_strategies};
 
@@ -60,7 +60,7 @@ fn read_heading<S: Source, A: Strategies>(
     requires { input.old ≡ fresh }
     ensures over { IfOk result (λ h. is_some (finish_told h.stage) ≡ true) }
     ensures held { IfOk result (λ h. HoldsEverySwap (A.holds strategies.now) h.many) }
-    ensures reads { Reads (IsHeading (A.holds strategies.now)) (λ bytes r. headed (A.holds strategies.now) (ahead fresh bytes) ≡ Err r)
+    ensures reads { ReadsOrStops (IsHeading (A.holds strategies.now)) (λ bytes r. headed (A.holds strategies.now) (ahead fresh bytes) ≡ Err r)
         (desk (S.left source.old) (S.faults source.old) fresh) (desk (S.left source.new) (S.faults source.new) input.new) result }
 {
     let names = strategy_names(strategies)?;
@@ -224,7 +224,7 @@ fn run_events<S: Source, A: Strategies>(
     requires held { HoldsEverySwap (A.holds strategies.now) many.now }
     requires fits { Fits (S.left source.old) input.old }
     ensures held { IfOk result (AreAllHeld (A.holds strategies.now)) }
-    ensures reads { Reads (AreRun (A.gives strategies.now) many.now) (λ bytes r. places_after_events many.now (ahead input.old bytes) ≡ Err r)
+    ensures reads { ReadsOrStops (AreRun (A.gives strategies.now) many.now) (λ bytes r. places_after_events many.now (ahead input.old bytes) ≡ Err r)
         (desk (S.left source.old) (S.faults source.old) input.old) (desk (S.left source.new) (S.faults source.new) input.new) result }
 {
     match open(alloc, many, wallets) {
@@ -248,7 +248,7 @@ fn play<S: Source, A: Strategies>(
     ensures chains { IfOk result (λ p. AreBoundedChains p.many) }
     ensures swaps { IfOk result (λ p. AreSwaps p.many) }
     ensures held { IfOk result (λ p. AreAllHeld (A.holds strategies.now) p.world) }
-    ensures reads { Reads (λ p. Ends (λ bytes. IsManyPlayed (A.holds strategies.now) (A.gives strategies.now) bytes p.many p.finish p.world))
+    ensures reads { ReadsOrStops (λ p. Ends (λ bytes. IsManyPlayed (A.holds strategies.now) (A.gives strategies.now) bytes p.many p.finish p.world))
         (IsCommandRefusal (A.holds strategies.now) Many)
         (desk (S.left source.old) (S.faults source.old) fresh) (desk (S.left source.new) (S.faults source.new) input.new) result }
 {

@@ -15,16 +15,22 @@ use crate::replay::skip_events;
 use crate::run::write_report_or_transcript;
 use command_input::{Input, InputFault, Status};
 use deviators::Strategies;
-use party_threads::{Gate, race_fitting};
-use party_wallet::Wallet;
+use party_threads::{Gate, Hooks, race_fitting};
 use refusals::Refusal;
 use std::alloc::Global;
 use std::sync::Wait;
 use std::thread::Threads;
 use swap_base::NoMemory;
 use swap_io::{Sink, Source};
-use swap_job::{Job, Purpose};
+use swap_job::Purpose;
 use swap_offer::Prepared;
+
+/// How a race is asked for: with `ticks` ticks a round. Its report is written, or its transcript.
+#[derive(Clone, Copy, Debug, PartialEq, Eq)]
+pub struct RaceOrder {
+    pub ticks: u32,
+    pub transcript: bool,
+}
 
 /// The job of an input without events, and the wallets of its conforming parties.
 fn read_job<S: Source, A: Strategies>(
@@ -32,26 +38,20 @@ fn read_job<S: Source, A: Strategies>(
     strategies: &A,
     input: &mut Input,
     source: &mut S,
-) -> Result<(Job, Vec<Option<Wallet>>), InputFault<Refusal>>
+) -> Result<Prepared, InputFault<Refusal>>
     requires { input.old ≡ fresh }
-    ensures entered { IfOk result (λ e. Ends (λ bytes. IsEntered (A.holds strategies.now) bytes e.0) (desk (S.left source.old) (S.faults source.old) fresh)
+    ensures entered { IfOk result (λ e. Ends (λ bytes. IsEntered (A.holds strategies.now) bytes e.job) (desk (S.left source.old) (S.faults source.old) fresh)
         (desk (S.left source.new) (S.faults source.new) input.new)) }
-    ensures can { IfOk result (λ e. CanRace (A.holds strategies.now) e.0 e.1.items) }
+    ensures can { IfOk result (λ e. CanRace (A.holds strategies.now) e) }
     // The reason depends neither on the race's ticks nor on the text that is asked for.
     ensures stops { (ticks : ℕ) (transcript : Bool) → IfErr result (λ e.
         Stops (IsCommandRefusal (A.holds strategies.now) (OfJob (Race ticks transcript))) (desk (S.left source.old) (S.faults source.old) fresh)
         (desk (S.left source.new) (S.faults source.new) input.new) e) }
 {
-    let Prepared { job, wallets, .. } = first_line(
-        alloc,
-        strategies,
-        Purpose::Race,
-        input,
-        source,
-    )?;
-    match skip_events(alloc, &job, input, source) {
-        Ok(()) => Ok((job, wallets)),
-        Err(fault) => Err(fault.with_names(job.names)),
+    let prepared = first_line(alloc, strategies, Purpose::Race, input, source)?;
+    match skip_events(alloc, &prepared.job, input, source) {
+        Ok(()) => Ok(prepared),
+        Err(fault) => Err(fault.with_names(prepared.job.names)),
     }
 }
 
@@ -61,9 +61,9 @@ pub fn enter<S: Source, A: Strategies>(
     alloc: Global,
     source: &mut S,
     strategies: &A,
-) -> Result<(Job, Vec<Option<Wallet>>), InputFault<Refusal>>
-    ensures entered { IfOk result (λ e. HasEntered (A.holds strategies.now) (S.left source.old) (S.left source.new) e.0) }
-    ensures can { IfOk result (λ e. CanRace (A.holds strategies.now) e.0 e.1.items) }
+) -> Result<Prepared, InputFault<Refusal>>
+    ensures entered { IfOk result (λ e. HasEntered (A.holds strategies.now) (S.left source.old) (S.left source.new) e.job) }
+    ensures can { IfOk result (λ e. CanRace (A.holds strategies.now) e) }
     ensures stopped { IfErr result (HasNotEntered (A.holds strategies.now) (S.left source.old) (S.left source.new)
         (S.faults source.old) (S.faults source.new)) }
     ensures calm { ¬ IsErrOf result InputFault.ReadFault → S.faults source.new ≡ S.faults source.old }
@@ -79,23 +79,21 @@ pub fn enter<S: Source, A: Strategies>(
 pub fn race<R: Threads + Wait + Sync, K: Sink, G: Gate, A: Strategies + Sync>(
     rt: &R,
     alloc: Global,
-    ticks: u32,
-    transcript: bool,
-    job: &Job,
-    wallets: Vec<Option<Wallet>>,
+    order: RaceOrder,
+    prepared: Prepared,
     sink: &mut K,
-    gate: &G,
-    strategies: &A,
+    hooks: Hooks<'_, A, G>,
 ) -> Status
-    requires can { CanRace (A.holds strategies.now) job.now wallets.items }
-    requires some { 1 ≤ ticks }
-    requires below { ticks ≤ 1000 }
-    ensures { (left left' : Option (List ℕ)) (n m : ℕ) → HasEntered (A.holds strategies.now) left left' job.now
-        → StatusSays (given_strategies (A.holds strategies.now) (A.gives strategies.now)) (OfJob (Race ticks transcript)) (streams left n (K.taken sink.old) (K.faults sink.old))
-        (streams left' m (K.taken sink.new) (K.faults sink.new)) result }
+    requires can { CanRace (A.holds hooks.strategies.now) prepared }
+    requires some { 1 ≤ order.ticks }
+    requires below { order.ticks ≤ 1000 }
+    ensures { (left left' : Option (List ℕ)) (n m : ℕ) → HasEntered (A.holds hooks.strategies.now) left left' prepared.job
+        → StatusSays (given_strategies (A.holds hooks.strategies.now) (A.gives hooks.strategies.now)) (OfJob (Race order.ticks order.transcript))
+        (streams left n (K.taken sink.old) (K.faults sink.old)) (streams left' m (K.taken sink.new) (K.faults sink.new)) result }
 {
-    match race_fitting(rt, alloc, job, strategies, wallets, ticks, gate) {
-        Ok(book) => write_report_or_transcript(alloc, transcript, sink, job, &book),
+    let Prepared { job, wallets, .. } = prepared;
+    match race_fitting(rt, alloc, &job, wallets, order.ticks, hooks) {
+        Ok(book) => write_report_or_transcript(alloc, order.transcript, sink, &job, &book),
         Err(NoMemory) => Status::NoMemory,
     }
 }

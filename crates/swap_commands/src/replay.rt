@@ -16,7 +16,7 @@ ghost use Rattle.command_input.specs.Input.{Ends, Fits, Stops, ahead, desk};
 ghost use Rattle.made_jobs.specs.Generating.{IsJobWorld};
 ghost use Rattle.swap_commands.specs.Output.{command_cast};
 ghost use Rattle.swap_commands.specs.Replay.{CanReplay, folded_events, skipped_event};
-ghost use Rattle.swap_commands.specs.Walk.{Reads};
+ghost use Rattle.swap_commands.specs.Walk.{ReadsOrStops};
 
 use crate::walk::{Skip, Walker, walk};
 use command_input::{Input, InputFault};
@@ -115,8 +115,8 @@ pub(crate) fn replay<S: Source, A: Strategies>(
     ensures asked { IfOk result (λ w. HasAsked (A.gives strategies.now) (new_world job.now) w) }
     ensures of { IfOk result (λ w. IsJobWorld job.now w) }
     ensures goes_on { IfOk result (λ w. w.stopped ≡ false) }
-    // Whatever strategies may answer after the last event.
-    ensures reads { Reads (λ w s t. (a : Answers) → Continues w a
+    // It holds whatever strategies may answer after the last event.
+    ensures reads { ReadsOrStops (λ w s t. (a : Answers) → Continues w a
         → Ends (λ bytes. folded_events (step (command_cast a job.now)) job.now 0 (start (job_cast job.now)) (ahead input.old bytes) ≡ Ok w.state) s t)
         (λ bytes reason. folded_events skipped_event job.now 0 tt (ahead input.old bytes) ≡ Err reason)
         (desk (S.left source.old) (S.faults source.old) input.old) (desk (S.left source.new) (S.faults source.new) input.new) result }

@@ -28,7 +28,7 @@ ghost use Rattle.made_jobs.specs.Generating.{IsJobWorld};
 ghost use Rattle.swap_commands.specs.Output.{book_report, reported, run_text};
 ghost use Rattle.swap_commands.specs.Replay.{IsConcluded, IsPlayed};
 ghost use Rattle.swap_commands.specs.Says.{CommandSays, IsCommandRefusal};
-ghost use Rattle.swap_commands.specs.Walk.{Reads};
+ghost use Rattle.swap_commands.specs.Walk.{ReadsOrStops};
 ghost use Rattle.swap_commands.specs.Words.{OfJob, Run};
 ghost use Rattle.swap_commands.specs.Strategies.{given_strategies};
 
@@ -68,8 +68,8 @@ fn play<S: Source, A: Strategies>(
     ensures accepted { IfOk result (λ p. IsAccepted p.0.deal) }
     ensures of { IfOk result (λ p. IsJobWorld p.0 p.1) }
     ensures goes_on { IfOk result (λ p. p.1.stopped ≡ false) }
-    // Whatever strategies may answer after the last event.
-    ensures reads { Reads (λ p s t. (a : Answers) → Continues p.1 a → Ends (λ bytes. IsPlayed (A.holds strategies.now) a bytes p.0 p.1.state) s t)
+    // It holds whatever strategies may answer after the last event.
+    ensures reads { ReadsOrStops (λ p s t. (a : Answers) → Continues p.1 a → Ends (λ bytes. IsPlayed (A.holds strategies.now) a bytes p.0 p.1.state) s t)
         (IsCommandRefusal (A.holds strategies.now) (OfJob (Run transcript)))
         (desk (S.left source.old) (S.faults source.old) fresh) (desk (S.left source.new) (S.faults source.new) input.new) result }
 {

@@ -4,7 +4,7 @@
 ghost use Rattle.std.specs.Prelude.{◌≡◌, ℕ, List, Result, Err, IfErr, OnOk};
 ghost use Rattle.swap_base.specs.Fault.{Fails};
 ghost use Rattle.command_input.specs.Input.{Fits, ahead, desk};
-ghost use Rattle.swap_commands.specs.Walk.{HasTakenEvent, IsWalked, Reads, lines_told};
+ghost use Rattle.swap_commands.specs.Walk.{HasTakenEvent, IsWalked, ReadsOrStops, lines_told};
 
 use command_input::{Input, InputFault};
 use std::alloc::Global;
@@ -55,7 +55,7 @@ pub(crate) fn walk<S: Source, C: Copy, R: Drop, W: Walker<C, R>>(
     requires can { W.can_take context walker.old }
     requires fits { Fits (S.left source.old) input.old }
     ensures can { OnOk result (W.can_take context walker.new) }
-    ensures reads { Reads (λ _. IsWalked (W.leads context) (W.told context) walker.old walker.new)
+    ensures reads { ReadsOrStops (λ _. IsWalked (W.leads context) (W.told context) walker.old walker.new)
         (λ bytes r. lines_told (W.told context) 0 (ahead input.old bytes) ≡ Err r)
         (desk (S.left source.old) (S.faults source.old) input.old) (desk (S.left source.new) (S.faults source.new) input.new) result }
 {

@@ -35,9 +35,9 @@ pub record Read (has : List ℕ → Bool) (chance : Chance) (words : List (List 
   pub within : length input ≤ limit
   pub gives : output_given_chance has chance command input ≡ output
 
--- The input was read to its end, its text by what chance decided was written whole, and what the
--- text shows is promised: also that each answer is one that its strategy may give, and that a race
--- came to the book.
+-- The input was read to its end, and its text by what chance decided was written whole. All that
+-- the text shows is promised: also that each answer is one that its strategy may give, and that the
+-- book is that of a race.
 pub record IsDone (who : Strategies) (words : List (List ℕ)) (before after : Streams) (found : Bool) : Type 0 where
   pub chance : Chance
   pub output : Written
@@ -95,8 +95,8 @@ pub record AsksFairRace (has : List ℕ → Bool) (words : List (List ℕ)) (lef
   pub fits : 2 * ticks ≤ job.deal.delta
   pub conforming : AllAreConforming job.deal job.conforming
 
--- The words ask for several swaps, and the input tells of swaps whose parties all conform, with a
--- fair finish and no event before it, on chains whose accounts have what is set aside from them.
+-- The words ask for several swaps. In the input all parties of all swaps conform, there is a fair
+-- finish with no event before it, and each account has what is set aside from it.
 pub record AsksFairMany (has : List ℕ → Bool) (words : List (List ℕ)) (left : Option (List ℕ)) : Type 0 where
   pub asked : words_command words ≡ Some Many
   pub input : List ℕ

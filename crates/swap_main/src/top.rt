@@ -11,36 +11,32 @@ ghost use Rattle.swap_commands.specs.Strategies.{given_strategies};
 
 use command_input::{Status, unread};
 use deviators::Strategies;
-use party_threads::Gate;
+use party_threads::{Gate, Hooks};
 use program_words::{Task, read_task};
 use std::alloc::Global;
 use std::sync::Wait;
 use std::thread::Threads;
-use swap_commands::{enter, generate, race, run_order};
+use swap_commands::{RaceOrder, enter, generate, race, run_order};
 use swap_io::{Sink, Source};
 
 /// Reads the job of a race, and races it.
 fn perform_race<R: Threads + Wait + Sync, S: Source, K: Sink, G: Gate, A: Strategies + Sync>(
     rt: &R,
     alloc: Global,
-    ticks: u32,
-    transcript: bool,
+    order: RaceOrder,
     source: &mut S,
     sink: &mut K,
-    gate: &G,
-    strategies: &A,
+    hooks: Hooks<'_, A, G>,
 ) -> Status
-    requires some { 1 ≤ ticks }
-    requires below { ticks ≤ 1000 }
-    ensures says { StatusSays (given_strategies (A.holds strategies.now) (A.gives strategies.now)) (OfJob (Race ticks transcript))
+    requires some { 1 ≤ order.ticks }
+    requires below { order.ticks ≤ 1000 }
+    ensures says { StatusSays (given_strategies (A.holds hooks.strategies.now) (A.gives hooks.strategies.now)) (OfJob (Race order.ticks order.transcript))
         (streams (S.left source.old) (S.faults source.old) (K.taken sink.old) (K.faults sink.old))
         (streams (S.left source.new) (S.faults source.new) (K.taken sink.new) (K.faults sink.new)) result }
     ensures calm { ¬ (result ≡ Status.ReadFault) → S.faults source.new ≡ S.faults source.old }
 {
-    match enter(alloc, source, strategies) {
-        Ok((job, wallets)) => race(
-            rt, alloc, ticks, transcript, &job, wallets, sink, gate, strategies,
-        ),
+    match enter(alloc, source, hooks.strategies) {
+        Ok(prepared) => race(rt, alloc, order, prepared, sink, hooks),
         Err(fault) => unread(fault),
     }
 }
@@ -84,22 +80,21 @@ pub fn swap_plain<S: Source, K: Sink, A: Strategies>(
 }
 
 /// Runs the program: the words after its name, its standard input and its standard output.
-/// `strategies` answers for each party that follows a strategy, and each turn of a race passes the
-/// gate. Where a race is asked for it waits for the race's threads.
+/// `hooks.strategies` answers for each party that follows a strategy, and each turn of a race passes
+/// `hooks.gate`. Where a race is asked for it waits for the race's threads.
 pub fn swap_top<R: Threads + Wait + Sync, S: Source, K: Sink, G: Gate, A: Strategies + Sync>(
     rt: &R,
     alloc: Global,
     words: &Vec<String>,
     source: &mut S,
     sink: &mut K,
-    gate: &G,
-    strategies: &A,
+    hooks: Hooks<'_, A, G>,
 ) -> Status
     // Wrong words are those that aren't well formed.
     ensures words { (result ≡ Status.WrongWords) ↔ (task_text (map string_bytes words.now.items) ≡ None) }
     ensures unread { result ≡ Status.WrongWords → source.new ≡ source.old }
     ensures unread_by_number { (request : Request) → words_request (map string_bytes words.now.items) ≡ Some request → source.new ≡ source.old }
-    ensures answer { IsAnswer (given_strategies (A.holds strategies.now) (A.gives strategies.now)) (map string_bytes words.now.items)
+    ensures answer { IsAnswer (given_strategies (A.holds hooks.strategies.now) (A.gives hooks.strategies.now)) (map string_bytes words.now.items)
         (streams (S.left source.old) (S.faults source.old) (K.taken sink.old) (K.faults sink.old))
         (streams (S.left source.new) (S.faults source.new) (K.taken sink.new) (K.faults sink.new)) result }
     // No read failed, unless the status tells of it.
@@ -112,9 +107,10 @@ pub fn swap_top<R: Threads + Wait + Sync, S: Source, K: Sink, G: Gate, A: Strate
         return Status::WrongWords;
     };
     match asked {
-        Task::Input(given) => run_order(alloc, given, source, sink, strategies),
+        Task::Input(given) => run_order(alloc, given, source, sink, hooks.strategies),
         Task::Race { ticks, transcript } => {
-            perform_race(rt, alloc, ticks, transcript, source, sink, gate, strategies)
+            let order = RaceOrder { ticks, transcript };
+            perform_race(rt, alloc, order, source, sink, hooks)
         }
         Task::Number(request) => generate(alloc, request, sink),
     }

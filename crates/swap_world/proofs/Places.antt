@@ -25,7 +25,7 @@ use Rattle.swap_world.specs.Cast.{asks}
 use Rattle.swap_world.specs.Recorded.{AreRecorded, IsPartyDisk}
 use Rattle.wallet_journal.specs.Journal.{JournalState}
 use Rattle.wallet_journal.specs.Memory.{DiskState}
-use Rattle.swap_world.specs.Players.{Actor, CanLearn, knowing}
+use Rattle.swap_world.specs.Players.{Actor, CanLearnLedger, knowing_ledger}
 use Rattle.swap_world.specs.declared.player.Player.TheVariants.{Conforming, Planned, Manual}
 use Rattle.swap_world.specs.declared.world.World.TheInside.{Inside}
 use Rattle.swap_world.proofs.Disks.{all_disks}
@@ -144,7 +144,7 @@ module _ (i : Inside) (h : WorldHolds i) (goes_on : i.stopped ≡ false) (p : �
   starts : (k : List Entry) → Begins k (history (histories i.ledgers.items) a) → Begins k l.history
   starts k b = subst (Begins k) (history_at i.ledgers.items a l below there) b
 
-  pub can_learn : (x : Actor) → x ≡ get_or i.actors.items p x → CanLearn x l
+  pub can_learn : (x : Actor) → x ≡ get_or i.actors.items p x → CanLearnLedger x l
   can_learn (Conforming m j) here =
       let k = machine_found i h p known (Conforming m j) here m j refl in (
         is_of.deal ∙ sym k.is.1,
@@ -162,18 +162,18 @@ module _ (i : Inside) (h : WorldHolds i) (goes_on : i.stopped ≡ false) (p : �
   can_learn Manual here = tt
 
   -- what it then is
-  pub knows : (x : Actor) → knowing x l.arc l.history ≡ knowing x a (history (histories i.ledgers.items) a)
-  knows x = ap₂ (λ (b : ℕ) (k : List Entry). knowing x b k) is_of.arc (sym (history_at i.ledgers.items a l below there))
+  pub knows : (x : Actor) → knowing_ledger x l.arc l.history ≡ knowing_ledger x a (history (histories i.ledgers.items) a)
+  knows x = ap₂ (λ (b : ℕ) (k : List Entry). knowing_ledger x b k) is_of.arc (sym (history_at i.ledgers.items a l below there))
 
 -- it is its party's player
 pub still_party : (d : Deal) (conforms : Bool) (seed : Option (List ℕ)) (role : Role) (v : ℕ) (x : Actor) (a : ℕ) (h : List Entry)
-    → IsPartyActor d conforms seed role v x → IsPartyActor d conforms seed role v (knowing x a h)
+    → IsPartyActor d conforms seed role v x → IsPartyActor d conforms seed role v (knowing_ledger x a h)
 still_party d conforms seed role v (Conforming m j) a h is = is
 still_party d conforms seed role v (Planned n) a h is = is
 still_party d conforms seed role v Manual a h is = is
 
 -- and has its journal
-pub still_journaled : (d : Deal) (v : ℕ) (x : Actor) (a : ℕ) (h : List Entry) → IsJournaled d v x → IsJournaled d v (knowing x a h)
+pub still_journaled : (d : Deal) (v : ℕ) (x : Actor) (a : ℕ) (h : List Entry) → IsJournaled d v x → IsJournaled d v (knowing_ledger x a h)
 still_journaled d v (Conforming m j) a h is = is
 still_journaled d v (Planned n) a h is = tt
 still_journaled d v Manual a h is = tt

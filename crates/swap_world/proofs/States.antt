@@ -33,7 +33,7 @@ use Rattle.swap_world.proofs.On.{make_on, act_on, act_is, call_is, told_due, tol
 use Rattle.swap_world.specs.Inside.{actor_notes, actor_plan, IsPartyActor, ArePartyActors}
 use Rattle.wallet_journal.specs.Journal.{JournalState}
 use Rattle.wallet_journal.specs.Memory.{DiskState}
-use Rattle.swap_world.specs.Players.{Actor, knowing}
+use Rattle.swap_world.specs.Players.{Actor, knowing_ledger}
 use Rattle.swap_world.specs.declared.player.Player.TheVariants.{Conforming, Planned, Manual}
 use Rattle.swap_world.proofs.Ledgers.{each_set}
 
@@ -229,7 +229,7 @@ module _ (d : Deal) (conforming : List Bool) (seeds : List (Option (List ℕ))) 
   -- whoever stands there
   pub saw : (p a : ℕ) (x new : Actor) → p < length xs → x ≡ get_or xs p x
       → IsPartyActor d (slice_index_or conforming p false) (slice_index_or seeds p None) (slice_index_or roles p kinds.Manual) p x
-      → new ≡ knowing x a (history (histories ls) a) → replaced p new (histories ls) ≡ step c s (Look p a)
+      → new ≡ knowing_ledger x a (history (histories ls) a) → replaced p new (histories ls) ≡ step c s (Look p a)
   saw p a (Conforming m j) new lt here is e =
       ap (λ (y : Actor). replaced p y (histories ls)) e ∙ looked p a m _ j j (record { below = lt; here = here; is = is }) refl
   saw p a (Planned n) new lt here is e =

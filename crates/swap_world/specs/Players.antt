@@ -26,14 +26,14 @@ without_journal (Planned n) = Planned n
 without_journal Manual = Manual
 
 -- the ledger is one of its party's deal, and begins with what the party knows of it
-abbrev pub CanLearn : {J : Type 0} → Player J → LedgerState → Type 0
-CanLearn (Conforming m j) l =
+abbrev pub CanLearnLedger : {J : Type 0} → Player J → LedgerState → Type 0
+CanLearnLedger (Conforming m j) l =
     (l.deal ≡ m.deal) × IsLegal l.deal l.arc l.history × (l.arc < length l.deal.graph.arcs) × Begins (history m.known l.arc) l.history
-CanLearn (Planned n) l = (l.arc < length n.known) × Begins (history n.known l.arc) l.history
-CanLearn Manual l = Unit {0}
+CanLearnLedger (Planned n) l = (l.arc < length n.known) × Begins (history n.known l.arc) l.history
+CanLearnLedger Manual l = Unit {0}
 
 -- the player that knows the ledger of arc a up to its end
-abbrev pub knowing : {J : Type 0} → Player J → ℕ → List Entry → Player J
-knowing (Conforming m j) a h = Conforming (record m { known = slice_set m.known a h }) j
-knowing (Planned n) a h = Planned (plan_with_ledger n a h)
-knowing Manual a h = Manual
+abbrev pub knowing_ledger : {J : Type 0} → Player J → ℕ → List Entry → Player J
+knowing_ledger (Conforming m j) a h = Conforming (record m { known = slice_set m.known a h }) j
+knowing_ledger (Planned n) a h = Planned (plan_with_ledger n a h)
+knowing_ledger Manual a h = Manual

@@ -1,7 +1,7 @@
 //! What acts for a party, in a run or a race, and what it learns of a ledger.
 
 ghost use Rattle.std.specs.Prelude.{◌≡◌, OnOk, OnErr};
-ghost use Rattle.swap_world.specs.Players.{knowing, CanLearn};
+ghost use Rattle.swap_world.specs.Players.{knowing_ledger, CanLearnLedger};
 
 use crate::turn::{learn, watch};
 use ledger_core::Ledger;
@@ -29,8 +29,8 @@ impl<J> Player<J> {
     /// Lets the party know a ledger up to its end, where it has a machine or a planner. Want of
     /// memory leaves it as it was.
     pub(crate) fn learn(&mut self, ledger: &Ledger) -> Result<(), NoMemory>
-        requires { CanLearn self.old ledger.now }
-        ensures ok { OnOk result (self.new ≡ knowing self.old ledger.now.arc ledger.now.history) }
+        requires { CanLearnLedger self.old ledger.now }
+        ensures ok { OnOk result (self.new ≡ knowing_ledger self.old ledger.now.arc ledger.now.history) }
         ensures err { OnErr result (self.new ≡ self.old) }
     {
         match self {

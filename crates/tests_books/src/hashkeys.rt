@@ -250,8 +250,7 @@ fn has_digest(rt: &impl Abort, alloc: Global, header: &str, text: &str) -> Resul
     Ok(())
 }
 
-/// The digest of the deal of three parties with hashkeys is that of the text, where the offer has
-/// that version.
+/// With that version, the deal of three parties with hashkeys has the digest of the text.
 fn has_text_digest(rt: &impl Abort, alloc: Global, version: &str, text: &str) -> Result<(), Fail> {
     let header = jobs::THREE.replacen(alloc, "\"swap\":1", version, 1)?;
     has_digest(rt, alloc, header.as_str(), text)

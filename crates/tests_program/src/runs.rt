@@ -4,7 +4,7 @@ ghost use Rattle.std.specs.Prelude.{ℕ, IfOk};
 ghost use Rattle.deviators.specs.View.{IsView, MayAnswer};
 
 use deviators::{Kit, Rule, Strategy};
-use party_threads::Gate;
+use party_threads::{Gate, Hooks};
 use refusals::Reason;
 use std::alloc::Global;
 use std::sync::Wait;
@@ -76,10 +76,9 @@ fn command_status<R: Threads + Wait + Sync, G: Gate>(
     words: &Vec<String>,
     source: &mut VecSource,
     sink: &mut TextSink,
-    gate: &G,
-    kit: &Kit,
+    hooks: Hooks<'_, Kit, G>,
 ) -> Status {
-    swap_top(rt, alloc, words, source, sink, gate, kit)
+    swap_top(rt, alloc, words, source, sink, hooks)
 }
 
 /// What the program answers to a command and what a source gives.
@@ -88,12 +87,11 @@ fn command_answer<R: Threads + Wait + Sync, G: Gate>(
     alloc: Global,
     command: &str,
     source: &mut VecSource,
-    gate: &G,
-    kit: &Kit,
+    hooks: Hooks<'_, Kit, G>,
 ) -> Result<String, Fail> {
     let words = collect_words(alloc, command)?;
     let mut sink = TextSink::new(alloc);
-    let status = command_status(rt, alloc, &words, source, &mut sink, gate, kit);
+    let status = command_status(rt, alloc, &words, source, &mut sink, hooks);
     told(alloc, &status, sink.into_text().as_slice())
 }
 
@@ -108,7 +106,11 @@ pub(crate) fn answer<R: Threads + Wait + Sync, G: Gate>(
 ) -> Result<String, Fail> {
     let bytes = Vec::from_slice(alloc, input.as_bytes())?;
     let mut source = VecSource::new(bytes, PER_READ, Vec::new(alloc));
-    command_answer(rt, alloc, command, &mut source, gate, kit)
+    let hooks = Hooks {
+        strategies: kit,
+        gate,
+    };
+    command_answer(rt, alloc, command, &mut source, hooks)
 }
 
 /// What an audit answers of a race of the job, in which nothing is found.

@@ -44,7 +44,7 @@ fn two_at_once<R: Threads + Wait + Sync>(
     )
 }
 
-/// Each pass on a thread of its own, and the ledger that comes of it.
+/// Each pass on a thread of its own, and the ledger after all of them.
 fn raced<R: Threads + Wait + Sync>(
     rt: &R,
     alloc: Global,

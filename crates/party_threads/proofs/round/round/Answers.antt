@@ -28,7 +28,7 @@ take_turns-requires-clause-seated g c = λ κs lives.
     let job = c.args.setting.now.job.now in
     let s = c.requires.stands in
     let d = c.in_ok-shared.ensures in
-    let holds = g.A.Strategies.holds c.args.setting.now.strategies.now in
+    let holds = g.A.Strategies.holds c.args.setting.now.hooks.strategies.now in
     subst (λ xs. (i : ℕ) (t : Turn) → i < length c.hand_out.new.turns → IsSeated holds job xs c.args.setting.now.ticks i (get_or c.hand_out.new.turns i t))
     (sym c.as_slice.ensures.value)
     (seated job c.args.ledgers.now c.args.turns.now c.hand_out.new.turns c.in_ok-shared.shared.items s
@@ -44,7 +44,7 @@ close-requires-clause-places g c =
     let job = setting.job.now in
     let s = c.requires.stands in
     places_taken job.deal c.hand_out.new.turns c.take_turns.new.turns c.take_turns.ensures.number
-    (taken_at (g.A.Strategies.gives setting.strategies.now) job setting.ticks c.hand_out.new.turns c.take_turns.new.turns c.take_turns.ensures.number
+    (taken_at (g.A.Strategies.gives setting.hooks.strategies.now) job setting.ticks c.hand_out.new.turns c.take_turns.new.turns c.take_turns.ensures.number
     c.take_turns.ensures.took)
     (places_kept job.deal c.args.turns.now c.hand_out.new.turns c.hand_out.ensures.shape s.places)
 
@@ -57,14 +57,14 @@ close-requires-clause-set g c =
     are_set job.deal c.hand_out.new.turns (map (λ (x : SharedState). x.lock) c.in_ok-shared.shared.items) c.args.ledgers.now s.home d.dealt
     (length-map c.in_ok-shared.shared.items (λ (x : SharedState). x.lock) ∙ d.one_each) c.take_turns.new.turns
     (places_kept job.deal c.args.turns.now c.hand_out.new.turns c.hand_out.ensures.shape s.places)
-    (taken_at (g.A.Strategies.gives setting.strategies.now) job setting.ticks c.hand_out.new.turns c.take_turns.new.turns c.take_turns.ensures.number
+    (taken_at (g.A.Strategies.gives setting.hooks.strategies.now) job setting.ticks c.hand_out.new.turns c.take_turns.new.turns c.take_turns.ensures.number
     c.take_turns.ensures.took)
 
 pub returns-then-done-clause-stands : goal.returns-then-done-clause-stands
 returns-then-done-clause-stands g c =
     let setting = c.args.setting.now in
     let job = setting.job.now in
-    let gives = g.A.Strategies.gives setting.strategies.now in
+    let gives = g.A.Strategies.gives setting.hooks.strategies.now in
     let s = c.requires.stands in
     let d = c.in_ok-shared.ensures in
     let ts1 = c.hand_out.new.turns in
@@ -80,7 +80,7 @@ pub returns-then-done-clause-round : goal.returns-then-done-clause-round
 returns-then-done-clause-round g c =
     let setting = c.args.setting.now in
     let job = setting.job.now in
-    let gives = g.A.Strategies.gives setting.strategies.now in
+    let gives = g.A.Strategies.gives setting.hooks.strategies.now in
     let s = c.requires.stands in
     let d = c.in_ok-shared.ensures in
     let ts1 = c.hand_out.new.turns in

@@ -10,7 +10,7 @@ pub rounds-init : goal.rounds-init
 rounds-init g c = record {
   stands = c.requires.stands;
   raced =
-      no_rounds (g.A.Strategies.gives c.args.setting.now.strategies.now) (job_cast c.args.setting.now.job.now) c.args.setting.now.ticks 0
+      no_rounds (g.A.Strategies.gives c.args.setting.now.hooks.strategies.now) (job_cast c.args.setting.now.job.now) c.args.setting.now.ticks 0
       (race_state c.args.setting.now.job.now c.args.ledgers.now c.args.turns.now)
       refl c.requires.first;
 }
@@ -23,14 +23,14 @@ round-requires-clause-room g c = λ κs lives.
     let setting = c.args.setting.now in
     let job = setting.job.now in
     let l : c.rounds.number < needed_rounds job.deal setting.ticks = rw (← c.needed_rounds-number-end.ensures) c.rounds-test.true in
-    room_left (g.A.Strategies.gives setting.strategies.now) (job_cast job) setting.ticks c.rounds.number (race_state job c.rounds.ledgers c.rounds.turns)
+    room_left (g.A.Strategies.gives setting.hooks.strategies.now) (job_cast job) setting.ticks c.rounds.number (race_state job c.rounds.ledgers c.rounds.turns)
     c.rounds.invariant.stands.cast c.requires.some c.requires.below l c.rounds.invariant.raced
 
 pub rounds-preserved : goal.rounds-preserved
 rounds-preserved g c = record {
   stands = c.in_ok-round.ensures.stands;
   raced =
-      one_round_more (g.A.Strategies.gives c.args.setting.now.strategies.now) (job_cast c.args.setting.now.job.now) c.args.setting.now.ticks c.rounds.number
+      one_round_more (g.A.Strategies.gives c.args.setting.now.hooks.strategies.now) (job_cast c.args.setting.now.job.now) c.args.setting.now.ticks c.rounds.number
       (race_state c.args.setting.now.job.now c.rounds.ledgers c.rounds.turns)
       (race_state c.args.setting.now.job.now c.round.new.ledgers c.round.new.turns) c.rounds.invariant.raced c.in_ok-round.ensures.round;
 }

@@ -8,7 +8,7 @@ use Rattle.swap_commands.proofs.Saying.{has_entered}
 use Rattle.swap_commands.proofs.racing.enter.Goals as goal
 
 pub returns-in-Ok-clause-entered : goal.returns-in-Ok-clause-entered
-returns-in-Ok-clause-entered g c = has_entered _ _ _ _ _ c.read_job.new.input c.in-Ok.entered.0 c.in-Ok.ensures.entered
+returns-in-Ok-clause-entered g c = has_entered _ _ _ _ _ c.read_job.new.input c.in-Ok.entered.job c.in-Ok.ensures.entered
 
 pub returns-in_err-input-clause-stopped : goal.returns-in_err-input-clause-stopped
 returns-in_err-input-clause-stopped g c =

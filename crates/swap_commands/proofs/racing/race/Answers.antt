@@ -7,17 +7,17 @@ use Rattle.swap_commands.proofs.Saying.{says_race}
 use Rattle.swap_commands.proofs.racing.race.Goals as goal
 
 pub race_fitting-requires-clause-seeds : goal.race_fitting-requires-clause-seeds
-race_fitting-requires-clause-seeds g c = λ κs lives. have_seeds c.args.job.now c.requires.can.whole c.requires.can.fit
+race_fitting-requires-clause-seeds g c = λ κs lives. have_seeds c.args.prepared.job c.requires.can.whole c.requires.can.fit
 
 pub race_fitting-requires-clause-roles : goal.race_fitting-requires-clause-roles
-race_fitting-requires-clause-roles g c = λ κs lives. have_roles c.args.job.now c.requires.can.whole c.requires.can.scripts
+race_fitting-requires-clause-roles g c = λ κs lives. have_roles c.args.prepared.job c.requires.can.whole c.requires.can.scripts
 
 pub race_fitting-requires-clause-fit : goal.race_fitting-requires-clause-fit
-race_fitting-requires-clause-fit g c = λ κs lives. wallets_fit c.args.job.now c.requires.can.fit
+race_fitting-requires-clause-fit g c = λ κs lives. wallets_fit c.args.prepared.job c.requires.can.fit
 
 pub returns-in-Ok : goal.returns-in-Ok
 returns-in-Ok g c = λ left left' n m e.
-    says_race _ _ c.args.ticks c.args.transcript left left' n m _ _ _ _ c.args.job.now c.in-Ok.book.histories c.write_report_or_transcript.result e c.requires.can.accepted
+    says_race _ _ c.args.order.ticks c.args.order.transcript left left' n m _ _ _ _ c.args.prepared.job c.in-Ok.book.histories c.write_report_or_transcript.result e c.requires.can.accepted
     c.requires.can.purpose c.in-Ok.ensures c.write_report_or_transcript.ensures
 
 pub returns-in-Err : goal.returns-in-Err

@@ -8,7 +8,7 @@ use Rattle.swap_run.specs.Run.{State, step}
 use Rattle.swap_world.specs.Acting.{histories}
 use Rattle.swap_world.specs.Inside.{inside_questions, inside_cast, inside_run_state, IsPartyActor}
 use Rattle.swap_world.specs.Journals.{IsJournaled}
-use Rattle.swap_world.specs.Players.{Actor, knowing}
+use Rattle.swap_world.specs.Players.{Actor, knowing_ledger}
 use Rattle.swap_world.specs.declared.world.World.TheInside.{Inside}
 use Rattle.swap_world.proofs.Ledgers.{each_set, on_ok, on_err}
 use Rattle.swap_world.proofs.States.{actor_set, same_actor, saw, state}
@@ -59,7 +59,7 @@ module _ (c : goal.After-learn) where
   saw_it : OnOk c.learn.result (after ≡ step (inside_cast i) (inside_run_state i) (Look c.args.p c.args.arc))
   saw_it =
       let below = subst (λ n. c.args.arc < n) (sym c.self.invariant.ledgers.one_each) can.arc in
-      on_ok c.learn.result (λ (e : new ≡ knowing x c.index.result.now.arc c.index.result.now.history).
+      on_ok c.learn.result (λ (e : new ≡ knowing_ledger x c.index.result.now.arc c.index.result.now.history).
       saw i.deal i.conforming i.seeds i.roles (inside_questions i) i.ledgers.items i.actors.items c.args.p c.args.arc x new low c.index_mut.ensures.value is
       (e ∙ knows i c.self.invariant goes_on c.args.p can.known c.args.arc c.index.result.now below c.index.ensures x)) c.learn.ensures.ok
 
@@ -77,7 +77,7 @@ invariant_of-self c =
       ready = c.self.invariant.ready;
       ledgers = c.self.invariant.ledgers;
       actors = actor_set i.deal i.conforming i.seeds i.roles xs c.args.p (new o) c.self.invariant.actors (low o)
-          (became c.learn.result (Is o) (x o) (knowing (x o) c.index.result.now.arc c.index.result.now.history) (new o) c.learn.ensures.ok c.learn.ensures.err
+          (became c.learn.result (Is o) (x o) (knowing_ledger (x o) c.index.result.now.arc c.index.result.now.history) (new o) c.learn.ensures.ok c.learn.ensures.err
           (still_party i.deal (slice_index_or i.conforming c.args.p false) (slice_index_or i.seeds c.args.p None) (slice_index_or i.roles c.args.p kinds.Manual)
           c.args.p (x o) c.index.result.now.arc c.index.result.now.history (is o)) (is o));
       askers = c.self.invariant.askers;
@@ -87,7 +87,7 @@ invariant_of-self c =
       room = c.self.invariant.room;
       journals = λ on. each_set (IsJournaled i.deal) xs c.args.p (new o) (c.self.invariant.journals on) (low o)
           (let had = c.self.invariant.journals on c.args.p (x o) (low o) c.index_mut.ensures.value in
-          became c.learn.result (IsJournaled i.deal c.args.p) (x o) (knowing (x o) c.index.result.now.arc c.index.result.now.history) (new o)
+          became c.learn.result (IsJournaled i.deal c.args.p) (x o) (knowing_ledger (x o) c.index.result.now.arc c.index.result.now.history) (new o)
           c.learn.ensures.ok c.learn.ensures.err (still_journaled i.deal c.args.p (x o) c.index.result.now.arc c.index.result.now.history had) had);
       disks = λ on. absurd (false≢true (sym (goes_on o) ∙ on));
       kept = c.self.invariant.kept;
