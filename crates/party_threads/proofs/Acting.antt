@@ -12,16 +12,15 @@ use Rattle.swap_run.proofs.Slots.{left, left_most}
 use Rattle.swap_world.specs.Acting.{IsMakable, IsSameOwner}
 use Rattle.party_threads.specs.Able.{watcher, machine_rest, IsAble}
 use Rattle.party_threads.specs.Later.{HaveAdvanced}
-use Rattle.party_threads.specs.Tracks.{IsWatching, HaveSeenAll, IsSameElsewhere, CanWatcherCall, HasLearntCall}
-use Rattle.party_threads.specs.Took.{HasActed}
+use Rattle.party_threads.specs.Tracks.{HaveSeenAll, IsSameElsewhere, CanWatcherCall, HasLearntCall}
+use Rattle.party_threads.specs.Took.{IsMachineSeated, HasActed}
 use Rattle.party_threads.proofs.Machines.{makable, made_of, able_made, owner_more, left_made, none_left}
 use Rattle.party_threads.proofs.Passes.{none_went, all_more, seen_of, elsewhere_more}
 
 -- what holds after k acts
 pub record IsActing (ledgers : List SharedState) (m : MachineState) (ps : List (Option PassState)) (k : ℕ) (n : MachineState) (qs : List (Option PassState))
     : Type 0 where
-  pub able : IsAble n
-  pub watching : IsWatching ledgers (watcher n) qs
+  pub seated : IsMachineSeated ledgers n qs
   pub gone_on : HaveAdvanced ps qs
   pub seen : HaveSeenAll ps → HaveSeenAll qs
   pub owner : IsSameOwner m n
@@ -29,11 +28,10 @@ pub record IsActing (ledgers : List SharedState) (m : MachineState) (ps : List (
   -- of all calls that a party may make, k are made
   pub few : left n.deal n.me n.known + k ≤ most_acts m.deal
 
-pub acts_begin : (ledgers : List SharedState) (m : MachineState) (ps : List (Option PassState)) (k : ℕ) → k ≡ 0 → IsAble m → IsWatching ledgers (watcher m) ps
+pub acts_begin : (ledgers : List SharedState) (m : MachineState) (ps : List (Option PassState)) (k : ℕ) → k ≡ 0 → IsMachineSeated ledgers m ps
     → IsActing ledgers m ps k m ps
-acts_begin ledgers m ps k none able watching = record {
-  able = able;
-  watching = watching;
+acts_begin ledgers m ps k none seated = record {
+  seated = seated;
   gone_on = none_went ps;
   seen = λ h. h;
   owner = record { deal = refl; me = refl; seed = refl };
@@ -42,11 +40,10 @@ acts_begin ledgers m ps k none able watching = record {
 }
 
 pub acts_on : (ledgers : List SharedState) (m n o : MachineState) (ps qs rs : List (Option PassState)) (k : ℕ) → IsActing ledgers m ps k n qs
-    → HaveAdvanced qs rs → IsAble o → IsWatching ledgers (watcher o) rs → (HaveSeenAll qs → HaveSeenAll rs) → IsSameOwner n o
+    → HaveAdvanced qs rs → IsMachineSeated ledgers o rs → (HaveSeenAll qs → HaveSeenAll rs) → IsSameOwner n o
     → IsSameElsewhere qs n.known o.known → left n.deal n.me o.known + 1 ≤ left n.deal n.me n.known → IsActing ledgers m ps (k + 1) o rs
-acts_on ledgers m n o ps qs rs k h gone able watching seen owner elsewhere fewer = record {
-  able = able;
-  watching = watching;
+acts_on ledgers m n o ps qs rs k h gone seated seen owner elsewhere fewer = record {
+  seated = seated;
   gone_on = all_more ps qs rs h.gone_on gone;
   seen = λ all. seen (h.seen all);
   owner = owner_more m n o h.owner owner;
@@ -61,7 +58,7 @@ acts_on ledgers m n o ps qs rs k h gone able watching seen owner elsewhere fewer
 pub acts_end : (ledgers : List SharedState) (m : MachineState) (ps : List (Option PassState)) (k : ℕ) (n : MachineState) (qs : List (Option PassState))
     → IsActing ledgers m ps k n qs → most_acts m.deal ≤ k → next_due n ≡ None
 acts_end ledgers m ps k n qs h all =
-    none_left n h.able (let few = h.few in omega (arith, few, all))
+    none_left n h.seated.able (let few = h.few in omega (arith, few, all))
 
 -- An act.
 
@@ -111,13 +108,13 @@ module _ (m answered : MachineState) (o : Option (ℕ × Call)) (x : ℕ × Call
 
 -- The whole turn, after its looks and its acts.
 pub has_acted : {A E : Type 0} (ledgers : List SharedState) (m n : MachineState) (ps qs rs : List (Option PassState)) (r : Result A E) → HaveSeenAll qs
-    → IsSameElsewhere ps m.known n.known → OnOk r (IsAble n) → OnOk r (IsWatching ledgers (watcher n) rs) → OnOk r (HaveSeenAll qs → HaveSeenAll rs)
+    → IsSameElsewhere ps m.known n.known → OnOk r (IsMachineSeated ledgers n rs) → OnOk r (HaveSeenAll qs → HaveSeenAll rs)
     → OnOk r (next_due n ≡ None) → OnOk r (HasActed m ps n rs)
-has_acted ledgers m n ps qs rs (Ok u) all elsewhere able watching seen rests = record {
-  able = able;
-  seen = λ a p lt e. seen_of ledgers (watcher n) rs a p watching.tracks lt e;
+has_acted ledgers m n ps qs rs (Ok u) all elsewhere seated seen rests = record {
+  able = seated.able;
+  seen = λ a p lt e. seen_of ledgers (watcher n) rs a p seated.watching.tracks lt e;
   whole = seen all;
   rests = rests;
   elsewhere = elsewhere;
 }
-has_acted ledgers m n ps qs rs (Err e) all elsewhere able watching seen rests = tt
+has_acted ledgers m n ps qs rs (Err e) all elsewhere seated seen rests = tt

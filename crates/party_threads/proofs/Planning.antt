@@ -24,6 +24,7 @@ use Rattle.deviators.specs.View.{IsView, IsPartyAnswer, MayAnswer}
 use Rattle.swap_rules.specs.Machine.{Begins}
 use Rattle.swap_rules.proofs.Prefixes.{same_or_not}
 use Rattle.swap_rules.proofs.Conducting.{Next, next_call, next_legal, next_begins, history_same, history_other}
+use Rattle.swap_run.specs.Asked.{is_strategy}
 use Rattle.swap_run.specs.Run.{Plan}
 use Rattle.swap_world.specs.Gone.{MayGive}
 use Rattle.party_threads.specs.Later.{arc_pass, Advanced, HaveAdvanced}
@@ -169,6 +170,14 @@ whole_known ledgers w ps qs tracks gone all places a p lt e =
     let lt1 : a < length qs = subst (λ z. a < z) (sym places) lt in
     subst (λ s. IsPrefix s (history w.known a)) (ap (λ (r : PassState). r.shared) went.2.1)
     (subst (IsPrefix went.0.shared) (seen_of ledgers w qs a went.0 tracks lt1 went.1) (all a went.0 lt1 went.1))
+
+-- the next call of a script is an answer of every party that follows no strategy
+pub followed : (gives : MayGive) (d : Deal) (seeds : Seeds) (v : ℕ) (o : Option (ℕ × Call)) (n m : Plan) (role : Role) → is_strategy role ≡ false
+    → o ≡ script_call d seeds n.known n.moves → m.moves ≡ moves_left n.known n.moves → IsPlanAnswer gives d seeds v n.known o n m role
+followed gives d seeds v o n m (Script moves) none is left = (is, left)
+followed gives d seeds v o n m (Strategy name) none is left = absurd (true≢false none)
+followed gives d seeds v o n m Conforming none is left = tt
+followed gives d seeds v o n m Manual none is left = tt
 
 answered_as : (gives : MayGive) (d : Deal) (seeds : Seeds) (v : ℕ) (view : Histories) (answer : Option (ℕ × Call)) (n0 n1 n2 n3 : Plan) (role : Role)
     → n1.moves ≡ n0.moves → n1.turns ≡ n0.turns → n3.moves ≡ n2.moves → IsPlanAnswer gives d seeds v view answer n1 n2 role

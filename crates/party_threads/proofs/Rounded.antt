@@ -41,8 +41,9 @@ use Rattle.swap_world.specs.Cast.{job_cast}
 use Rattle.swap_world.specs.Inside.{IsArcLedger}
 use Rattle.swap_world.specs.Gone.{MayGive}
 use Rattle.swap_world.specs.Acting.{IsSameOwner}
+use Rattle.swap_world.specs.declared.player.Player.TheVariants.{Conforming, Planned, Manual}
 use Rattle.party_threads.specs.declared.turn.Actor.{Actor}
-use Rattle.party_threads.specs.declared.turn.Actor.TheVariants.{Conforming, Planned, Manual, Clock}
+use Rattle.party_threads.specs.declared.turn.Actor.TheVariants.{Party, Clock}
 use Rattle.party_threads.specs.declared.turn.Turn.{Turn}
 use Rattle.party_threads.specs.Later.{arc_pass}
 use Rattle.party_threads.specs.Ticks.{HaveTicked, Ticked}
@@ -62,39 +63,39 @@ closed_of d ts a (Some l) k = (l, refl, k)
 
 -- a conforming party acts by its machine
 make_machine : (d : Deal) (seed : Option (List ℕ)) (role : Role) (v : ℕ) (x : Actor) (b : Bool) → b ≡ true → IsPartyTurnActor d b seed role v x
-    → (m : MachineState) × (x ≡ Conforming m)
-make_machine d seed role v (Conforming m) b e k = (m, refl)
-make_machine d seed role v (Planned n) b e k = absurd (false≢true (sym k.0 ∙ e))
-make_machine d seed role v Manual b e k = absurd (false≢true (sym k.0 ∙ e))
+    → (m : MachineState) × (x ≡ Party (Conforming m tt))
+make_machine d seed role v (Party (Conforming m u)) b e k = (m, refl)
+make_machine d seed role v (Party (Planned n)) b e k = absurd (false≢true (sym k.0 ∙ e))
+make_machine d seed role v (Party Manual) b e k = absurd (false≢true (sym k.0 ∙ e))
 make_machine d seed role v Clock b e k = absurd k
 
 -- a party that follows a script or a strategy acts by its plan
 party_planner : (d : Deal) (seed : Option (List ℕ)) (role : Role) (v : ℕ) (x : Actor) (b : Bool) → b ≡ false → is_planned role ≡ true
     → IsPartyTurnActor d b seed role v x
-    → (n : Plan) × (x ≡ Planned n)
-party_planner d seed role v (Conforming m) b e p k = absurd (false≢true (sym e ∙ k.0))
-party_planner d seed role v (Planned n) b e p k = (n, refl)
-party_planner d seed role v Manual b e p k = absurd (false≢true (sym k.1 ∙ p))
+    → (n : Plan) × (x ≡ Party (Planned n))
+party_planner d seed role v (Party (Conforming m u)) b e p k = absurd (false≢true (sym e ∙ k.0))
+party_planner d seed role v (Party (Planned n)) b e p k = (n, refl)
+party_planner d seed role v (Party Manual) b e p k = absurd (false≢true (sym k.1 ∙ p))
 party_planner d seed role v Clock b e p k = absurd k
 
 -- a party that neither conforms nor plans doesn't act
 manual_of : (d : Deal) (seed : Option (List ℕ)) (role : Role) (v : ℕ) (x : Actor) (b : Bool) → b ≡ false → is_planned role ≡ false → IsPartyTurnActor d b seed role v x
-    → x ≡ Manual
-manual_of d seed role v (Conforming m) b e p k = absurd (false≢true (sym e ∙ k.0))
-manual_of d seed role v (Planned n) b e p k = absurd (false≢true (sym p ∙ k.1))
-manual_of d seed role v Manual b e p k = refl
+    → x ≡ Party Manual
+manual_of d seed role v (Party (Conforming m u)) b e p k = absurd (false≢true (sym e ∙ k.0))
+manual_of d seed role v (Party (Planned n)) b e p k = absurd (false≢true (sym p ∙ k.1))
+manual_of d seed role v (Party Manual) b e p k = refl
 manual_of d seed role v Clock b e p k = absurd k
 
-same_machine : (m : MachineState) (y : Actor) → IsSameActor (Conforming m) y → (n : MachineState) × (y ≡ Conforming n) × IsSameOwner m n
-same_machine m (Conforming n) k = (n, refl, k)
-same_machine m (Planned n) k = absurd k
-same_machine m Manual k = absurd k
+same_machine : (m : MachineState) (y : Actor) → IsSameActor (Party (Conforming m tt)) y → (n : MachineState) × (y ≡ Party (Conforming n tt)) × IsSameOwner m n
+same_machine m (Party (Conforming n u)) k = (n, refl, k)
+same_machine m (Party (Planned n)) k = absurd k
+same_machine m (Party Manual) k = absurd k
 same_machine m Clock k = absurd k
 
-same_planner : (n : Plan) (y : Actor) → IsSameActor (Planned n) y → (m : Plan) × (y ≡ Planned m)
-same_planner n (Conforming m) k = absurd k
-same_planner n (Planned m) k = (m, refl)
-same_planner n Manual k = absurd k
+same_planner : (n : Plan) (y : Actor) → IsSameActor (Party (Planned n)) y → (m : Plan) × (y ≡ Party (Planned m))
+same_planner n (Party (Conforming m u)) k = absurd k
+same_planner n (Party (Planned m)) k = (m, refl)
+same_planner n (Party Manual) k = absurd k
 same_planner n Clock k = absurd k
 
 begins_knows : (v : ℕ) (k h : List Entry) → Knows v k h → Begins k h
@@ -201,8 +202,8 @@ module _ (gives : MayGive) (job : Job) (ticks : ℕ) (ls ls' : List (Option Ledg
   -- Machines.
 
   record WentFrom (v : ℕ) (m n : MachineState) : Type 0 where
-    before : turn_actor ts1 v ≡ Conforming m
-    now : turn_actor ts3 v ≡ Conforming n
+    before : turn_actor ts1 v ≡ Party (Conforming m tt)
+    now : turn_actor ts3 v ≡ Party (Conforming n tt)
     deal : n.deal ≡ d
     me : n.me ≡ v
     seed : slice_index_or job.seeds v None ≡ Some n.seed
@@ -215,8 +216,8 @@ module _ (gives : MayGive) (job : Job) (ticks : ℕ) (ls ls' : List (Option Ledg
   went v lv cv =
       let first = s.actors v lv in
       let m = make_machine d (slice_index_or job.seeds v None) (job_role job v) v (turn_actor ts v) (slice_index_or job.conforming v false) cv first in
-      let is : IsJobActor job v (Conforming m.0) = subst (IsJobActor job v) m.1 first in
-      let before : turn_actor ts1 v ≡ Conforming m.0 = shape.actors v ∙ m.1 in
+      let is : IsJobActor job v (Party (Conforming m.0 tt)) = subst (IsJobActor job v) m.1 first in
+      let before : turn_actor ts1 v ≡ Party (Conforming m.0 tt) = shape.actors v ∙ m.1 in
       let n = same_machine m.0 (turn_actor ts2 v) (subst (λ x. IsSameActor x (turn_actor ts2 v)) before (taken v (below_all v lv)).actor) in
       let g : AreGoodNotes (job_cast job) old v = s.good.notes v lv cv in
       let note : state_notes old v ≡ record { known = m.0.known; signed = m.0.signed } = notes_are job ls ts v lv ∙ ap (turn_actor_notes d) m.1 in (
@@ -321,16 +322,16 @@ module _ (gives : MayGive) (job : Job) (ticks : ℕ) (ls ls' : List (Option Ledg
   -- Scripts and strategies.
 
   record PlannedFrom (v : ℕ) (n m : Plan) : Type 0 where
-    before : turn_actor ts1 v ≡ Planned n
-    now : turn_actor ts3 v ≡ Planned m
+    before : turn_actor ts1 v ≡ Party (Planned n)
+    now : turn_actor ts3 v ≡ Party (Planned m)
     was : party_plan old v ≡ n
     is : party_plan new v ≡ m
     acted : HasPlanned gives job v n (held_passes (slice_get ts1 v)) m (held_passes (slice_get ts2 v))
     knew : (a : ℕ) → Knows v (history n.known a) (history old.book a)
 
-  planned : (v : ℕ) (n : Plan) → v < d.graph.n → turn_actor ts v ≡ Planned n → (m : Plan) × PlannedFrom v n m
+  planned : (v : ℕ) (n : Plan) → v < d.graph.n → turn_actor ts v ≡ Party (Planned n) → (m : Plan) × PlannedFrom v n m
   planned v n lv first =
-      let before : turn_actor ts1 v ≡ Planned n = shape.actors v ∙ first in
+      let before : turn_actor ts1 v ≡ Party (Planned n) = shape.actors v ∙ first in
       let m = same_planner n (turn_actor ts2 v) (subst (λ x. IsSameActor x (turn_actor ts2 v)) before (taken v (below_all v lv)).actor) in (
         m.0,
         record {
@@ -434,18 +435,18 @@ module _ (gives : MayGive) (job : Job) (ticks : ℕ) (ls ls' : List (Option Ledg
 
   -- The others.
 
-  abbrev manual_at : (v : ℕ) → v < d.graph.n → conforms (job_cast job) v ≡ false → is_planned (job_role job v) ≡ false → turn_actor ts v ≡ Manual
+  abbrev manual_at : (v : ℕ) → v < d.graph.n → conforms (job_cast job) v ≡ false → is_planned (job_role job v) ≡ false → turn_actor ts v ≡ Party Manual
   manual_at v lv cv p =
       manual_of d (slice_index_or job.seeds v None) (job_role job v) v (turn_actor ts v) (slice_index_or job.conforming v false) cv p (s.actors v lv)
 
-  module _ (v : ℕ) (lv : v < d.graph.n) (first : turn_actor ts v ≡ Manual) where
+  module _ (v : ℕ) (lv : v < d.graph.n) (first : turn_actor ts v ≡ Party Manual) where
     idle : held_passes (slice_get ts2 v) ≡ held_passes (slice_get ts1 v)
     idle =
         subst (λ x. Did gives job ticks v (held_passes (slice_get ts1 v)) (held_passes (slice_get ts2 v)) (held_clocks (slice_get ts1 v))
         (held_clocks (slice_get ts2 v)) x
         (turn_actor ts2 v)) (shape.actors v ∙ first) (done v (below_all v lv))
 
-    started_whole : (x : Actor) (a : ℕ) (h : List Entry) → x ≡ Manual → pass_start x a h ≡ h
+    started_whole : (x : Actor) (a : ℕ) (h : List Entry) → x ≡ Party Manual → pass_start x a h ≡ h
     started_whole x a h e = ap (λ y. pass_start y a h) e
 
     made_none : (a : ℕ) (h : List Entry) → IsLegal d a h → touches d v a ≡ false → party_made v h ≡ []
@@ -471,7 +472,7 @@ module _ (gives : MayGive) (job : Job) (ticks : ℕ) (ls ls' : List (Option Ledg
             ∙ ap (party_made v) (sym (was a l.0 lt l.1)))
         go (inr ge) = ap (party_made v) (none_now a ge ∙ sym (none_before a ge))
 
-    stays : turn_actor ts3 v ≡ Manual
+    stays : turn_actor ts3 v ≡ Party Manual
     stays = after.actors v ∙ subst (λ x. IsSameActor x (turn_actor ts2 v)) (shape.actors v ∙ first) (taken v (below_all v lv)).actor
 
   -- The round.
@@ -492,21 +493,21 @@ module _ (gives : MayGive) (job : Job) (ticks : ℕ) (ls ls' : List (Option Ledg
   stays_in v lv = go (turn_actor ts v) refl (s.actors v lv)
     where
       go : (x : Actor) → turn_actor ts v ≡ x → IsJobActor job v x → Stays v
-      go (Conforming m) e k =
+      go (Party (Conforming m u)) e k =
           let w = went v lv k.0 in
           record {
             actor = subst (IsJobActor job v) (sym w.2.now) (k.0, w.2.deal, w.2.me, w.2.seed);
             plan = plan_kept v lv (ap (race_plan d) e ∙ sym (ap (race_plan d) w.2.now));
             own = subst (λ x. KnowsOwn v x new.book) (sym w.2.now) tt;
           }
-      go (Planned n) e k =
+      go (Party (Planned n)) e k =
           let w = planned v n lv e in
           record {
             actor = subst (IsJobActor job v) (sym w.1.now) k;
             plan = subst (IsGoodPlan d job.seeds v new.book) (sym w.1.is) (plan_good_now v lv n w.0 w.1);
             own = subst (λ x. KnowsOwn v x new.book) (sym w.1.now) (plan_knows v lv n w.0 w.1);
           }
-      go Manual e k =
+      go (Party Manual) e k =
           let now = stays v lv e in
           record {
             actor = subst (IsJobActor job v) (sym now) k;

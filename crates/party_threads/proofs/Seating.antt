@@ -31,8 +31,9 @@ use Rattle.swap_run.specs.Shown.{IsShown}
 use Rattle.swap_world.specs.Cast.{job_cast, signing_wallet}
 use Rattle.swap_world.specs.Inside.{IsArcLedger}
 use Rattle.swap_world.specs.Actors.{AreHeld}
+use Rattle.swap_world.specs.declared.player.Player.TheVariants.{Conforming, Planned, Manual}
 use Rattle.party_threads.specs.declared.turn.Actor.{Actor}
-use Rattle.party_threads.specs.declared.turn.Actor.TheVariants.{Conforming, Planned, Manual, Clock}
+use Rattle.party_threads.specs.declared.turn.Actor.TheVariants.{Party, Clock}
 use Rattle.party_threads.specs.declared.turn.Turn.{Turn}
 use Rattle.party_threads.specs.Tracks.{Watcher, IsWatcherPass, IsWatching}
 use Rattle.party_threads.specs.Able.{watcher, IsAble}
@@ -82,9 +83,9 @@ module _ (job : Job) (ls : List (Option LedgerState)) (ts : List Turn) (s : Stan
   d = job.deal
 
   -- what stands of a machine
-  pub able_at : (v : ℕ) (m : MachineState) → v < d.graph.n → turn_actor ts v ≡ Conforming m → IsAble m
+  pub able_at : (v : ℕ) (m : MachineState) → v < d.graph.n → turn_actor ts v ≡ Party (Conforming m tt) → IsAble m
   able_at v m lv e =
-      let is : IsJobActor job v (Conforming m) = subst (IsJobActor job v) e (s.actors v lv) in
+      let is : IsJobActor job v (Party (Conforming m tt)) = subst (IsJobActor job v) e (s.actors v lv) in
       let n : AreGoodNotes (job_cast job) (race_state job ls ts) v = s.good.notes v lv is.0 in
       let note : state_notes (race_state job ls ts) v ≡ record { known = m.known; signed = m.signed } = notes_are job ls ts v lv ∙ ap (turn_actor_notes d) e in
       subst IsAble (is_named d v m is.1 is.2) (record {
@@ -97,10 +98,10 @@ module _ (job : Job) (ls : List (Option LedgerState)) (ts : List Turn) (s : Stan
       })
 
   -- what stands of a plan
-  pub plan_good : (v : ℕ) (n : Plan) → v < d.graph.n → turn_actor ts v ≡ Planned n → IsGoodPlan d job.seeds v (race_book ls) n
+  pub plan_good : (v : ℕ) (n : Plan) → v < d.graph.n → turn_actor ts v ≡ Party (Planned n) → IsGoodPlan d job.seeds v (race_book ls) n
   plan_good v n lv e = subst (IsGoodPlan d job.seeds v (race_book ls)) (plans_are job ls ts v lv ∙ ap (race_plan d) e) (s.good.plans v lv)
 
-  pub plan_shown : (v : ℕ) (n : Plan) → v < d.graph.n → turn_actor ts v ≡ Planned n → IsShown d job.seeds v n
+  pub plan_shown : (v : ℕ) (n : Plan) → v < d.graph.n → turn_actor ts v ≡ Party (Planned n) → IsShown d job.seeds v n
   plan_shown v n lv e =
       let g = plan_good v n lv e in
       record { view = plan_view d job.seeds v (race_book ls) n (accepted_is_well_sized d s.cast.accepted) lv s.good.legal g; moves = g.moves }
@@ -118,11 +119,11 @@ module _ (job : Job) (ls : List (Option LedgerState)) (ts : List Turn) (s : Stan
   has_arc v a lv lt = go (turn_actor ts v) refl (s.actors v lv)
     where
       go : (x : Actor) → turn_actor ts v ≡ x → IsJobActor job v x → HasArc x a
-      go (Conforming m) e k = subst (λ x. a < length x.graph.arcs) (sym k.1) lt
-      go (Planned n) e k =
+      go (Party (Conforming m u)) e k = subst (λ x. a < length x.graph.arcs) (sym k.1) lt
+      go (Party (Planned n)) e k =
           let below : a < length n.known = subst (λ z. a < z) (sym (plan_good v n lv e).one_each) lt in
           (below, (countable d a (history n.known a) ((plan_shown v n lv e).view.legal.legal a below)).count)
-      go Manual e k = tt
+      go (Party Manual) e k = tt
       go Clock e k = tt
 
   -- each actor is behind the histories of its arcs
@@ -133,11 +134,11 @@ module _ (job : Job) (ls : List (Option LedgerState)) (ts : List Turn) (s : Stan
       now = history_is ls a l at (subst (λ n. a < n) (sym s.home.one_each) lt)
 
       go : (x : Actor) → turn_actor ts v ≡ x → IsJobActor job v x → IsBehind x v a l.history
-      go (Conforming m) e k =
+      go (Party (Conforming m u)) e k =
           let note : state_notes (race_state job ls ts) v ≡ record { known = m.known; signed = m.signed } = notes_are job ls ts v lv ∙ ap (turn_actor_notes d) e in
           subst (λ (w : Notes × List Entry). Knows v (history w.0.known a) w.1) (λ i. (note i, now i)) ((s.good.notes v lv k.0).knows a)
-      go (Planned n) e k = subst (λ h. Knows v (history n.known a) h) now (subst (λ x. KnowsOwn v x (race_book ls)) e (s.own v lv) a)
-      go Manual e k = knows_all v l.history
+      go (Party (Planned n)) e k = subst (λ h. Knows v (history n.known a) h) now (subst (λ x. KnowsOwn v x (race_book ls)) e (s.own v lv) a)
+      go (Party Manual) e k = knows_all v l.history
       go Clock e k = knows_all v l.history
 
 -- Each pass is as it was dealt.
@@ -229,23 +230,21 @@ module _ (job : Job) (ls : List (Option LedgerState)) (first ts : List Turn) (sh
         };
       }
 
-  seated_machine : (v : ℕ) (m : MachineState) → v < e.graph.n → turn_actor ts v ≡ Conforming m → IsMachineSeated shared m (held_passes (slice_get ts v))
+  seated_machine : (v : ℕ) (m : MachineState) → v < e.graph.n → turn_actor ts v ≡ Party (Conforming m tt) → IsMachineSeated shared m (held_passes (slice_get ts v))
   seated_machine v m lv is =
-      let who : IsJobActor job v (Conforming m) = subst (IsJobActor job v) (sym (actors v) ∙ is) (s.actors v lv) in
+      let who : IsJobActor job v (Party (Conforming m tt)) = subst (IsJobActor job v) (sym (actors v) ∙ is) (s.actors v lv) in
       let able = able_at job ls first s v m lv (sym (actors v) ∙ is) in
       record { able = able; watching = watching_at (watcher m) v lv who.1 who.2 (λ b h. ap (λ y. pass_start y b h) is) able.arcs }
 
   module _ (holds : List ℕ → Bool) (held : AreHeld holds job.roles) where
-    seated_planner : (v : ℕ) (n : Plan) → v < e.graph.n → turn_actor ts v ≡ Planned n → IsPlannerSeated holds job shared v n (held_passes (slice_get ts v))
+    seated_planner : (v : ℕ) (n : Plan) → v < e.graph.n → turn_actor ts v ≡ Party (Planned n) → IsPlannerSeated holds job shared v n (held_passes (slice_get ts v))
     seated_planner v n lv is =
-        let before : turn_actor first v ≡ Planned n = sym (actors v) ∙ is in
-        let who : IsJobActor job v (Planned n) = subst (IsJobActor job v) before (s.actors v lv) in
+        let before : turn_actor first v ≡ Party (Planned n) = sym (actors v) ∙ is in
         let place : v < length job.roles = subst (λ k. v < k) (sym s.cast.roles) lv in
         let shown = plan_shown job ls first s v n lv before in
         record {
           place = place;
           shown = shown;
-          planned = who.1;
           held = held v place;
           watching = watching_at (party_planner e v n) v lv refl refl (λ b h. ap (λ y. pass_start y b h) is) shown.view.legal.one_each;
         }
@@ -277,25 +276,25 @@ module _ (job : Job) (ls : List (Option LedgerState)) (first ts : List Turn) (sh
                 clock_room a k.0 l.0 p below l.1 l.2 (same_Some _ _ (sym (clock_is e ts locks ls s.home dealt all_locks a k.0 l.0 below k.1 l.1) ∙ held));
           }
 
-      not_clock : (m : MachineState) → Clock ≡ Conforming m → ⊥
+      not_clock : (m : MachineState) → Clock ≡ Party (Conforming m tt) → ⊥
       not_clock m e = cc e
 
-      not_planned : (n : Plan) → Clock ≡ Planned n → ⊥
+      not_planned : (n : Plan) → Clock ≡ Party (Planned n) → ⊥
       not_planned n e = cc e
 
       not_party : (v : ℕ) → v < length ts → v ≢ e.graph.n → v < e.graph.n
       not_party v lt apart = let n = places.actors in omega (arith, lt, n, apart)
 
-      machine_or_clock : (v : ℕ) (m : MachineState) → v < length ts → turn_actor ts v ≡ Conforming m → (v ≡ e.graph.n) ⊎ (v ≢ e.graph.n)
+      machine_or_clock : (v : ℕ) (m : MachineState) → v < length ts → turn_actor ts v ≡ Party (Conforming m tt) → (v ≡ e.graph.n) ⊎ (v ≢ e.graph.n)
           → IsMachineSeated shared m (held_passes (slice_get ts v))
       machine_or_clock v m lt is (inl at) =
-          absurd (not_clock m (sym (actors e.graph.n ∙ s.clock) ∙ subst (λ w. turn_actor ts w ≡ Conforming m) at is))
+          absurd (not_clock m (sym (actors e.graph.n ∙ s.clock) ∙ subst (λ w. turn_actor ts w ≡ Party (Conforming m tt)) at is))
       machine_or_clock v m lt is (inr apart) = seated_machine v m (not_party v lt apart) is
 
-      planner_or_clock : (v : ℕ) (n : Plan) → v < length ts → turn_actor ts v ≡ Planned n → (v ≡ e.graph.n) ⊎ (v ≢ e.graph.n)
+      planner_or_clock : (v : ℕ) (n : Plan) → v < length ts → turn_actor ts v ≡ Party (Planned n) → (v ≡ e.graph.n) ⊎ (v ≢ e.graph.n)
           → IsPlannerSeated holds job shared v n (held_passes (slice_get ts v))
       planner_or_clock v n lt is (inl at) =
-          absurd (not_planned n (sym (actors e.graph.n ∙ s.clock) ∙ subst (λ w. turn_actor ts w ≡ Planned n) at is))
+          absurd (not_planned n (sym (actors e.graph.n ∙ s.clock) ∙ subst (λ w. turn_actor ts w ≡ Party (Planned n)) at is))
       planner_or_clock v n lt is (inr apart) = seated_planner v n (not_party v lt apart) is
 
       clock_or_party : (v : ℕ) → v < length ts → turn_actor ts v ≡ Clock → (v ≡ e.graph.n) ⊎ (v ≢ e.graph.n)
@@ -305,9 +304,9 @@ module _ (job : Job) (ls : List (Option LedgerState)) (first ts : List Turn) (sh
 
       seated_actor : (v : ℕ) (x : Actor) → v < length ts → turn_actor ts v ≡ x
           → IsActorSeated holds job shared ticks v (held_passes (slice_get ts v)) (held_clocks (slice_get ts v)) x
-      seated_actor v (Conforming m) lt is = machine_or_clock v m lt is (same_or_not v e.graph.n)
-      seated_actor v (Planned n) lt is = planner_or_clock v n lt is (same_or_not v e.graph.n)
-      seated_actor v Manual lt is = tt
+      seated_actor v (Party (Conforming m u)) lt is = machine_or_clock v m lt is (same_or_not v e.graph.n)
+      seated_actor v (Party (Planned n)) lt is = planner_or_clock v n lt is (same_or_not v e.graph.n)
+      seated_actor v (Party Manual) lt is = tt
       seated_actor v Clock lt is = clock_or_party v lt is (same_or_not v e.graph.n)
 
       pub seated : (i : ℕ) (t : Turn) → i < length ts → IsSeated holds job shared ticks i (get_or ts i t)

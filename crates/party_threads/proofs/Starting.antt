@@ -20,16 +20,16 @@ use Rattle.swap_world.specs.Acting.{histories}
 use Rattle.swap_world.specs.Cast.{job_cast}
 use Rattle.swap_world.specs.Inside.{new_ledger, new_ledgers}
 use Rattle.swap_world.specs.Actors.{job_actor, AllFit, ConformingHaveSeeds, HaveRoles}
-use Rattle.swap_world.specs.declared.actor.Actor.{Actor as Party}
-use Rattle.swap_world.specs.declared.actor.Actor.TheVariants as parties
+use Rattle.swap_world.specs.Players.{Racer}
+use Rattle.swap_world.specs.declared.player.Player.TheVariants.{Conforming, Planned, Manual}
 use Rattle.swap_world.proofs.Ledgers.{none_yet}
 use Rattle.swap_world.proofs.Team.{IsOwn, is_own, is_ready, role_each}
 use Rattle.party_threads.specs.declared.turn.Actor.{Actor}
-use Rattle.party_threads.specs.declared.turn.Actor.TheVariants.{Clock}
+use Rattle.party_threads.specs.declared.turn.Actor.TheVariants.{Party, Clock}
 use Rattle.party_threads.specs.declared.turn.Turn.{Turn}
 use Rattle.party_threads.specs.Turns.{numbered_actor, held_passes, held_clocks, turn_actor, arc_ledger, IsHome}
 use Rattle.party_threads.specs.Standing.{race_book, turn_actor_notes, turn_notes, race_plan, turn_plan, race_state, IsJobActor, KnowsOwn, StandsHome}
-use Rattle.party_threads.specs.FirstTurns.{racing_actor, IsNewTurn, AreNew}
+use Rattle.party_threads.specs.FirstTurns.{IsNewTurn, AreNew}
 use Rattle.swap_digraph.proofs.Ranges.{map_more}
 use Rattle.party_threads.proofs.Turning.{get_there}
 use Rattle.party_threads.proofs.Placing.{map_append}
@@ -55,10 +55,10 @@ pub record Acts (job : Job) (v : ℕ) (x : Actor) : Type 0 where
   pub plan : race_plan job.deal x ≡ first_plan job.deal (job_role job v)
   pub own : KnowsOwn v x (no_histories job.deal)
 
-acts_as : (job : Job) (v : ℕ) (x : Party) → IsOwn job v x → Acts job v (racing_actor x)
-acts_as job v (parties.Conforming m) k = record { is = k.is; notes = k.notes; plan = k.plan; own = tt }
-acts_as job v parties.Manual k = record { is = k.is; notes = k.notes; plan = k.plan; own = tt }
-acts_as job v (parties.Planned n) k = record {
+acts_as : (job : Job) (v : ℕ) (x : Racer) → IsOwn job v x → Acts job v (Party x)
+acts_as job v (Conforming m u) k = record { is = k.is; notes = k.notes; plan = k.plan; own = tt }
+acts_as job v Manual k = record { is = k.is; notes = k.notes; plan = k.plan; own = tt }
+acts_as job v (Planned n) k = record {
   is = k.is;
   notes = k.notes;
   plan = k.plan;
@@ -74,16 +74,16 @@ module _ (job : Job) (ts : List Turn) (accepted : IsAccepted job.deal) (seeds : 
   abbrev ls : List (Option LedgerState)
   ls = map (λ l. Some l) (new_ledgers d)
 
-  acts_at : (v : ℕ) → v < d.graph.n → Acts job v (racing_actor (job_actor job v))
+  acts_at : (v : ℕ) → v < d.graph.n → Acts job v (Party (job_actor job v))
   acts_at v lv = acts_as job v (job_actor job v) (is_own job v seeds roles fit lv)
 
-  turn_at : (v : ℕ) → v < d.graph.n → (t : Turn) × (slice_get ts v ≡ Some t) × IsNewTurn d (racing_actor (job_actor job v)) t
+  turn_at : (v : ℕ) → v < d.graph.n → (t : Turn) × (slice_get ts v ≡ Some t) × IsNewTurn d (Party (job_actor job v)) t
   turn_at v lv = let n = new.number in let t = get_there ts v (omega (arith, n, lv)) in (t.0, t.1, new.each v t.0 lv t.1)
 
   clock_turn : (t : Turn) × (slice_get ts d.graph.n ≡ Some t) × IsNewTurn d Clock t
   clock_turn = let n = new.number in let t = get_there ts d.graph.n (omega (arith, n)) in (t.0, t.1, new.clock t.0 t.1)
 
-  actor_is : (v : ℕ) → v < d.graph.n → turn_actor ts v ≡ racing_actor (job_actor job v)
+  actor_is : (v : ℕ) → v < d.graph.n → turn_actor ts v ≡ Party (job_actor job v)
   actor_is v lv = let t = turn_at v lv in ap numbered_actor t.1 ∙ t.2.actor
 
   pub cast : IsReadyCast (job_cast job)

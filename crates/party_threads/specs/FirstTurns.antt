@@ -3,17 +3,9 @@ use Rattle.std.specs.Prelude.{◌≡◌, ℕ, ◌<◌, ◌+◌, List, [], ◌∷
 use Rattle.swap_digraph.specs.declared.deal.Deal.{Deal}
 use Rattle.swap_job.specs.declared.job.Job.{Job}
 use Rattle.swap_world.specs.Actors.{job_actor}
-use Rattle.swap_world.specs.declared.actor.Actor.{Actor as Party}
-use Rattle.swap_world.specs.declared.actor.Actor.TheVariants as parties
 use Rattle.party_threads.specs.declared.turn.Actor.{Actor}
-use Rattle.party_threads.specs.declared.turn.Actor.TheVariants.{Conforming, Planned, Manual, Clock}
+use Rattle.party_threads.specs.declared.turn.Actor.TheVariants.{Party, Clock}
 use Rattle.party_threads.specs.declared.turn.Turn.{Turn}
-
--- what acts for a party, among what has turns
-abbrev pub racing_actor : Party → Actor
-racing_actor (parties.Conforming m) = Conforming m
-racing_actor (parties.Planned n) = Planned n
-racing_actor parties.Manual = Manual
 
 -- The turn of an actor that has no pass yet.
 pub record IsNewTurn (d : Deal) (x : Actor) (t : Turn) : Type 0 where
@@ -30,5 +22,5 @@ pub record HasNewTurn (d : Deal) (x : Actor) (old new : List Turn) : Type 0 wher
 -- The turns of a job's parties and of the clock, before any round.
 pub record AreNew (job : Job) (ts : List Turn) : Type 0 where
   pub number : length ts ≡ job.deal.graph.n + 1
-  pub each : (p : ℕ) (t : Turn) → p < job.deal.graph.n → slice_get ts p ≡ Some t → IsNewTurn job.deal (racing_actor (job_actor job p)) t
+  pub each : (p : ℕ) (t : Turn) → p < job.deal.graph.n → slice_get ts p ≡ Some t → IsNewTurn job.deal (Party (job_actor job p)) t
   pub clock : (t : Turn) → slice_get ts job.deal.graph.n ≡ Some t → IsNewTurn job.deal Clock t

@@ -1,5 +1,5 @@
 -- How a race stands between two rounds.
-use Rattle.std.specs.Prelude.{◌≡◌, ℕ, ◌+◌, ◌<◌, ◌≤◌, Bool, true, false, List, [], length, map, slice_index_or, Option, Some, None}
+use Rattle.std.specs.Prelude.{◌≡◌, ℕ, ◌+◌, ◌<◌, ◌≤◌, Bool, false, List, [], length, map, slice_index_or, Option, Some, None}
 use Rattle.std.specs.List.{range_with_len}
 use Rattle.swap_digraph.specs.declared.deal.Deal.{Deal}
 use Rattle.ledger_core.specs.declared.entry.Entry.{Entry}
@@ -11,12 +11,14 @@ use Rattle.swap_job.specs.Roles.{job_role}
 use Rattle.swap_job.specs.declared.job.Job.{Job}
 use Rattle.swap_job.specs.declared.job.Role.{Role}
 use Rattle.swap_job.specs.declared.job.Role.TheVariants as kinds
-use Rattle.swap_run.specs.Run.{Notes, Plan, State, no_notes, first_plan, is_planned}
+use Rattle.swap_run.specs.Run.{Notes, Plan, State, no_notes, first_plan}
 use Rattle.swap_rules.specs.Machine.{Knows}
 use Rattle.swap_run.specs.Laws.{IsReadyCast, IsGood}
 use Rattle.swap_world.specs.Cast.{job_cast}
+use Rattle.swap_world.specs.Inside.{IsPartyActor, actor_notes, actor_plan}
+use Rattle.swap_world.specs.declared.player.Player.TheVariants.{Planned}
 use Rattle.party_threads.specs.declared.turn.Actor.{Actor}
-use Rattle.party_threads.specs.declared.turn.Actor.TheVariants.{Conforming, Planned, Manual, Clock}
+use Rattle.party_threads.specs.declared.turn.Actor.TheVariants.{Party, Clock}
 use Rattle.party_threads.specs.declared.turn.Turn.{Turn}
 use Rattle.party_threads.specs.Turns.{turn_actor, AreHome, HavePlaces, AreFree}
 
@@ -29,16 +31,16 @@ race_book ls = map home_history ls
 
 -- what the party has noted, where it conforms
 abbrev pub turn_actor_notes : Deal → Actor → Notes
-turn_actor_notes d (Conforming m) = record { known = m.known; signed = m.signed }
-turn_actor_notes d _ = no_notes d
+turn_actor_notes d (Party x) = actor_notes d x
+turn_actor_notes d Clock = no_notes d
 
 abbrev pub turn_notes : Deal → List Turn → ℕ → Notes
 turn_notes d ts v = turn_actor_notes d (turn_actor ts v)
 
 -- what the party plans, where it follows a script or a strategy
 abbrev pub race_plan : Deal → Actor → Plan
-race_plan d (Planned n) = n
-race_plan d _ = first_plan d kinds.Manual
+race_plan d (Party x) = actor_plan d x
+race_plan d Clock = first_plan d kinds.Manual
 
 abbrev pub turn_plan : Deal → List Turn → ℕ → Plan
 turn_plan d ts v = race_plan d (turn_actor ts v)
@@ -54,9 +56,7 @@ race_state job ls ts = record {
 -- The actor is the one of party v of the deal. The party conforms or not, as `conforms` tells, and
 -- has this seed and this role.
 abbrev pub IsPartyTurnActor : Deal → Bool → Option (List ℕ) → Role → ℕ → Actor → Type 0
-IsPartyTurnActor d conforms seed role v (Conforming m) = (conforms ≡ true) × (m.deal ≡ d) × (m.me ≡ v) × (seed ≡ Some m.seed)
-IsPartyTurnActor d conforms seed role v (Planned n) = (conforms ≡ false) × (is_planned role ≡ true)
-IsPartyTurnActor d conforms seed role v Manual = (conforms ≡ false) × (is_planned role ≡ false)
+IsPartyTurnActor d conforms seed role v (Party x) = IsPartyActor d conforms seed role v x
 IsPartyTurnActor d conforms seed role v Clock = ⊥
 
 -- The actor of party v of the job.
@@ -65,7 +65,7 @@ IsJobActor job v x = IsPartyTurnActor job.deal (slice_index_or job.conforming v 
 
 -- what the actor v plans by holds all its calls
 abbrev pub KnowsOwn : ℕ → Actor → Histories → Type 0
-KnowsOwn v (Planned n) b = (a : ℕ) → Knows v (history n.known a) (history b a)
+KnowsOwn v (Party (Planned n)) b = (a : ℕ) → Knows v (history n.known a) (history b a)
 KnowsOwn v _ b = Unit {0}
 
 -- Every ledger is at home, and nobody has a pass; what the parties know and did so far is good.

@@ -6,11 +6,12 @@ use Rattle.swap_job.specs.declared.job.Job.{Job}
 use Rattle.ledger_shared.specs.Value.{PassState, ClockState, SharedState}
 use Rattle.party_machine.specs.Machine.{MachineState, next_due}
 use Rattle.swap_run.specs.Shown.{IsShown}
-use Rattle.swap_run.specs.Run.{Plan, is_planned}
+use Rattle.swap_run.specs.Run.{Plan}
 use Rattle.swap_world.specs.Gone.{MayGive}
 use Rattle.swap_world.specs.Acting.{IsSameOwner}
+use Rattle.swap_world.specs.declared.player.Player.TheVariants.{Conforming, Planned, Manual}
 use Rattle.party_threads.specs.declared.turn.Actor.{Actor}
-use Rattle.party_threads.specs.declared.turn.Actor.TheVariants.{Conforming, Planned, Manual, Clock}
+use Rattle.party_threads.specs.declared.turn.Actor.TheVariants.{Party, Clock}
 use Rattle.party_threads.specs.declared.turn.Turn.{Turn}
 use Rattle.party_threads.specs.Later.{arc_pass, HaveAdvanced}
 use Rattle.party_threads.specs.Tracks.{IsWatching, HaveSeenAll, IsSameElsewhere}
@@ -27,15 +28,14 @@ pub record IsMachineSeated (ledgers : List SharedState) (m : MachineState) (ps :
 pub record IsPlannerSeated (holds : List ℕ → Bool) (job : Job) (ledgers : List SharedState) (v : ℕ) (n : Plan) (ps : List (Option PassState)) : Type 0 where
   pub place : v < length job.roles
   pub shown : IsShown job.deal job.seeds v n
-  pub planned : is_planned (job_role job v) ≡ true
   pub held : IsHeld holds (job_role job v)
   pub watching : IsWatching ledgers (party_planner job.deal v n) ps
 
 -- the actor has its passes
 abbrev pub IsActorSeated : (List ℕ → Bool) → Job → List SharedState → ℕ → ℕ → List (Option PassState) → List (Option ClockState) → Actor → Type 0
-IsActorSeated holds job ledgers ticks v ps cs (Conforming m) = IsMachineSeated ledgers m ps
-IsActorSeated holds job ledgers ticks v ps cs (Planned n) = IsPlannerSeated holds job ledgers v n ps
-IsActorSeated holds job ledgers ticks v ps cs Manual = Unit {0}
+IsActorSeated holds job ledgers ticks v ps cs (Party (Conforming m u)) = IsMachineSeated ledgers m ps
+IsActorSeated holds job ledgers ticks v ps cs (Party (Planned n)) = IsPlannerSeated holds job ledgers v n ps
+IsActorSeated holds job ledgers ticks v ps cs (Party Manual) = Unit {0}
 IsActorSeated holds job ledgers ticks v ps cs Clock = AreLedgerClocks ticks ledgers cs
 
 -- the actor with the number v has its passes
@@ -44,16 +44,11 @@ IsSeated holds job ledgers ticks v t = IsActorSeated holds job ledgers ticks v t
 
 -- the actor is the same one at a later moment
 abbrev pub IsSameActor : Actor → Actor → Type 0
-IsSameActor (Conforming m) (Conforming n) = IsSameOwner m n
-IsSameActor (Conforming m) (Planned n) = ⊥
-IsSameActor (Conforming m) Manual = ⊥
-IsSameActor (Conforming m) Clock = ⊥
-IsSameActor (Planned n) (Conforming m) = ⊥
-IsSameActor (Planned n) (Planned m) = Unit {0}
-IsSameActor (Planned n) Manual = ⊥
-IsSameActor (Planned n) Clock = ⊥
-IsSameActor Manual y = y ≡ Manual
+IsSameActor (Party (Conforming m u)) (Party (Conforming n w)) = IsSameOwner m n
+IsSameActor (Party (Planned n)) (Party (Planned m)) = Unit {0}
+IsSameActor (Party Manual) y = y ≡ Party Manual
 IsSameActor Clock y = y ≡ Clock
+IsSameActor _ _ = ⊥
 
 -- A conforming party knows all that was shared with it, and its own calls, and has nothing due.
 pub record HasActed (m : MachineState) (old : List (Option PassState)) (n : MachineState) (new : List (Option PassState)) : Type 0 where
@@ -72,16 +67,11 @@ pub record HasPlanned (gives : MayGive) (job : Job) (v : ℕ) (n : Plan) (old : 
 
 -- what an actor did in its turn, by its passes before and after it
 abbrev pub Did : MayGive → Job → ℕ → ℕ → (ps qs : List (Option PassState)) → (cs ds : List (Option ClockState)) → Actor → Actor → Type 0
-Did gives job ticks v ps qs cs ds (Conforming m) (Conforming n) = HasActed m ps n qs
-Did gives job ticks v ps qs cs ds (Conforming m) (Planned n) = ⊥
-Did gives job ticks v ps qs cs ds (Conforming m) Manual = ⊥
-Did gives job ticks v ps qs cs ds (Conforming m) Clock = ⊥
-Did gives job ticks v ps qs cs ds (Planned n) (Conforming m) = ⊥
-Did gives job ticks v ps qs cs ds (Planned n) (Planned m) = HasPlanned gives job v n ps m qs
-Did gives job ticks v ps qs cs ds (Planned n) Manual = ⊥
-Did gives job ticks v ps qs cs ds (Planned n) Clock = ⊥
-Did gives job ticks v ps qs cs ds Manual y = qs ≡ ps
+Did gives job ticks v ps qs cs ds (Party (Conforming m u)) (Party (Conforming n w)) = HasActed m ps n qs
+Did gives job ticks v ps qs cs ds (Party (Planned n)) (Party (Planned m)) = HasPlanned gives job v n ps m qs
+Did gives job ticks v ps qs cs ds (Party Manual) y = qs ≡ ps
 Did gives job ticks v ps qs cs ds Clock y = HaveTicked ticks cs ds
+Did gives job ticks v ps qs cs ds _ _ = ⊥
 
 abbrev pub DidInTurn : MayGive → Job → ℕ → ℕ → Turn → Turn → Type 0
 DidInTurn gives job ticks v old new = Did gives job ticks v old.passes.items new.passes.items old.clocks.items new.clocks.items old.actor new.actor

@@ -9,8 +9,9 @@ use Rattle.ledger_core.specs.Book.{history}
 use Rattle.ledger_shared.specs.Value.{PassState, ClockState, party_pass, table_clock, Closes, ClosesClock}
 use Rattle.swap_rules.specs.Machine.{Knows}
 use Rattle.swap_world.specs.Inside.{IsArcLedger}
+use Rattle.swap_world.specs.declared.player.Player.TheVariants.{Conforming, Planned, Manual}
 use Rattle.party_threads.specs.declared.turn.Actor.{Actor}
-use Rattle.party_threads.specs.declared.turn.Actor.TheVariants.{Conforming, Planned, Manual, Clock}
+use Rattle.party_threads.specs.declared.turn.Actor.TheVariants.{Party, Clock}
 use Rattle.party_threads.specs.declared.turn.Turn.{Turn}
 use Rattle.party_threads.specs.Later.{arc_pass, arc_clock}
 
@@ -43,17 +44,17 @@ arc_ledger ls a = slice_index_or ls a None
 
 -- what the pass of an actor has seen as it is dealt: what its party knows, or all
 abbrev pub pass_start : Actor → ℕ → List Entry → List Entry
-pass_start (Conforming m) a h = history m.known a
-pass_start (Planned n) a h = history n.known a
-pass_start Manual a h = h
+pass_start (Party (Conforming m u)) a h = history m.known a
+pass_start (Party (Planned n)) a h = history n.known a
+pass_start (Party Manual) a h = h
 pass_start Clock a h = h
 
 -- the arc is one of those that the actor knows, where it knows any, and what it knows of it can be
 -- counted
 abbrev pub HasArc : Actor → ℕ → Type 0
-HasArc (Conforming m) a = a < length m.deal.graph.arcs
-HasArc (Planned n) a = (a < length n.known) × (length (history n.known a) < 2 ^ 32)
-HasArc Manual a = Unit {0}
+HasArc (Party (Conforming m u)) a = a < length m.deal.graph.arcs
+HasArc (Party (Planned n)) a = (a < length n.known) × (length (history n.known a) < 2 ^ 32)
+HasArc (Party Manual) a = Unit {0}
 HasArc Clock a = Unit {0}
 
 -- what the actor v knows of the history of arc a begins it, and holds all calls of v

@@ -4,7 +4,7 @@ ghost use Rattle.std.specs.Prelude.{◌≡◌, None, length, replicate, IfOk, On
 ghost use Rattle.swap_digraph.specs.Deal.{IsWellSized};
 ghost use Rattle.party_wallet.specs.Wallets.{new_wallets};
 ghost use Rattle.swap_world.specs.Actors.{AllFit};
-ghost use Rattle.party_threads.specs.FirstTurns.{racing_actor, IsNewTurn, HasNewTurn, AreNew};
+ghost use Rattle.party_threads.specs.FirstTurns.{IsNewTurn, HasNewTurn, AreNew};
 
 use crate::turn::{Actor, Turn};
 use party_wallet::Wallet;
@@ -12,7 +12,7 @@ use std::alloc::Global;
 use swap_base::NoMemory;
 use swap_digraph::Deal;
 use swap_job::Job;
-use swap_world::{Actor as Party, new_actors};
+use swap_world::new_players;
 
 /// A place for each arc, with nothing in it.
 fn no_places<P: Drop>(alloc: Global, deal: &Deal) -> Result<Vec<Option<P>>, NoMemory>
@@ -45,17 +45,6 @@ fn add_turn(alloc: Global, deal: &Deal, turns: &mut Vec<Turn>, actor: Actor) -> 
     Ok(())
 }
 
-/// What acts for a party, among what has turns.
-fn racing(party: Party) -> Actor
-    ensures { result ≡ racing_actor party }
-{
-    match party {
-        Party::Conforming(machine) => Actor::Conforming(machine),
-        Party::Planned(planner) => Actor::Planned(planner),
-        Party::Manual => Actor::Manual,
-    }
-}
-
 /// The turns of the parties and of the clock, where every wallet is right.
 pub(crate) fn new_turns(
     alloc: Global,
@@ -68,10 +57,10 @@ pub(crate) fn new_turns(
     requires fit { AllFit job.now }
     ensures { IfOk result (λ v. AreNew job.now v.items) }
 {
-    let parties = new_actors(alloc, job, wallets)?;
+    let players = new_players(alloc, job, wallets)?;
     let mut turns = Vec::new(alloc);
-    'parties: for party in parties {
-        add_turn(alloc, &job.deal, &mut turns, racing(party))?;
+    'players: for player in players {
+        add_turn(alloc, &job.deal, &mut turns, Actor::Party(player))?;
     }
     add_turn(alloc, &job.deal, &mut turns, Actor::Clock)?;
     Ok(turns)

@@ -4,57 +4,23 @@
 ghost use Rattle.std.specs.Prelude.{◌≡◌, ◌<◌, ◌≤◌, ℕ, OnOk, length, slice_index_or, All, false, true};
 ghost use Rattle.swap_world.specs.Actors.{AreHeld};
 ghost use Rattle.swap_world.specs.Cast.{job_cast};
-ghost use Rattle.party_threads.specs.Later.{HaveAdvanced};
-ghost use Rattle.party_threads.specs.Ticks.{HaveClocksAdvanced};
-ghost use Rattle.party_threads.specs.Took.{IsSeated, IsSameActor, DidInTurn, Took};
+ghost use Rattle.party_threads.specs.Took.{IsSeated, Took};
 ghost use Rattle.party_threads.specs.Race.{IsRound};
 ghost use Rattle.party_threads.specs.Standing.{StandsHome, AllHaveRoom, race_book, race_state};
 
-use crate::clock::take_clock_turn;
 use crate::gate::Gate;
 use crate::handing::{close, hand_out};
 use crate::home::Home;
-use crate::machine_turn::take_machine_turn;
-use crate::planner_turn::take_planner_turn;
+use crate::play::play;
 use crate::setting::Setting;
 use crate::side::Side;
-use crate::turn::{Actor, Turn};
+use crate::turn::Turn;
 use deviators::Strategies;
 use ledger_shared::SharedLedger;
 use std::sync::Wait;
 use std::thread;
 use std::thread::Threads;
 use swap_base::{NoMemory, PartyId};
-
-/// What the actor of a side does in its turn.
-fn play<R: Wait, A: Strategies>(
-    rt: &R,
-    side: &Side<'_>,
-    strategies: &A,
-    ticks: u32,
-    turn: &mut Turn,
-) -> Result<(), NoMemory>
-    requires some { 1 ≤ ticks }
-    requires below { ticks ≤ 1000 }
-    requires seated { IsSeated (A.holds strategies.now) side.now.job.now side.now.ledgers.now ticks side.now.me turn.old }
-    ensures actor { IsSameActor turn.old.actor turn.new.actor }
-    ensures passes { HaveAdvanced turn.old.passes.items turn.new.passes.items }
-    ensures clocks { HaveClocksAdvanced turn.old.clocks.items turn.new.clocks.items }
-    ensures places { length turn.new.passes.items ≡ length turn.old.passes.items }
-    ensures clock_places { length turn.new.clocks.items ≡ length turn.old.clocks.items }
-    ensures did { OnOk result (DidInTurn (A.gives strategies.now) side.now.job.now ticks side.now.me turn.old turn.new) }
-{
-    match &mut turn.actor {
-        Actor::Conforming(machine) => {
-            take_machine_turn(rt, side, machine, turn.passes.as_mut_slice())
-        }
-        Actor::Planned(planner) => {
-            take_planner_turn(rt, side, strategies, planner, turn.passes.as_mut_slice())
-        }
-        Actor::Manual => Ok(()),
-        Actor::Clock => take_clock_turn(rt, side.ledgers, turn.clocks.as_mut_slice(), ticks),
-    }
-}
 
 fn take_turn<R: Wait, A: Strategies>(
     rt: &R,

@@ -142,24 +142,24 @@ pub fn race_fitting<R: Threads + Wait + Sync, A: Strategies + Sync, G: Gate>(
     job: &Job,
     wallets: Vec<Option<Wallet>>,
     ticks: u32,
-    hooks: Hooks<'_, A, G>,
+    hooks: &Hooks<'_, A, G>,
 ) -> Result<Book, NoMemory>
     requires accepted { IsAccepted job.now.deal }
     requires seeds { ConformingHaveSeeds job.now }
     requires roles { HaveRoles job.now }
-    requires held { AreHeld (A.holds hooks.strategies.now) job.now.roles }
+    requires held { AreHeld (A.holds hooks.now.strategies.now) job.now.roles }
     requires wallets { wallets.items ≡ new_wallets job.now.deal job.now.conforming job.now.seeds }
     requires fit { AllFit job.now }
     requires some { 1 ≤ ticks }
     requires below { ticks ≤ 1000 }
-    ensures { IfOk result (λ b. IsRaceBook (A.gives hooks.strategies.now) (job_cast job.now) ticks b.histories) }
+    ensures { IfOk result (λ b. IsRaceBook (A.gives hooks.now.strategies.now) (job_cast job.now) ticks b.histories) }
 {
     let mut turns = new_turns(alloc, job, wallets)?;
     let mut ledgers = make_ledgers(alloc, &job.deal)?;
     let setting = Setting {
         alloc,
         job,
-        hooks,
+        hooks: *hooks,
         ticks,
     };
     run_rounds(rt, &setting, ledgers.as_mut_slice(), turns.as_mut_slice())?;
@@ -176,16 +176,16 @@ pub fn race<R: Threads + Wait + Sync, A: Strategies + Sync, G: Gate>(
     job: &Job,
     wallets: Vec<Option<Wallet>>,
     ticks: u32,
-    hooks: Hooks<'_, A, G>,
+    hooks: &Hooks<'_, A, G>,
 ) -> Result<Book, WorldFault>
     requires accepted { IsAccepted job.now.deal }
     requires seeds { ConformingHaveSeeds job.now }
     requires roles { HaveRoles job.now }
-    requires held { AreHeld (A.holds hooks.strategies.now) job.now.roles }
+    requires held { AreHeld (A.holds hooks.now.strategies.now) job.now.roles }
     requires wallets { wallets.items ≡ new_wallets job.now.deal job.now.conforming job.now.seeds }
     requires some { 1 ≤ ticks }
     requires below { ticks ≤ 1000 }
-    ensures book { IfOk result (λ b. IsRaceBook (A.gives hooks.strategies.now) (job_cast job.now) ticks b.histories) }
+    ensures book { IfOk result (λ b. IsRaceBook (A.gives hooks.now.strategies.now) (job_cast job.now) ticks b.histories) }
     ensures fit { OnOk result (AllFit job.now) }
     ensures wrong { IfErr result (IsFirstWrongFault job.now) }
 {

@@ -6,20 +6,13 @@ ghost use Rattle.ledger_shared.specs.Value.{PassState, ClockState};
 ghost use Rattle.party_threads.specs.Turns.{HasArc, turn_actor, held_passes, held_clocks, held_pass, held_clock, pass_start, IsPut, IsClockPut};
 
 use ledger_shared::{ClockPass, Pass};
-use party_machine::Machine;
 use swap_base::{ArcId, PartyId};
-use swap_run::Planner;
+use swap_world::Player;
 
-/// What acts in a turn.
+/// What acts in a turn: a party or the clock.
 #[derive(Drop)]
 pub(crate) enum Actor {
-    /// A conforming party, by its machine.
-    Conforming(Machine),
-    /// A party that follows a script or a strategy.
-    Planned(Planner),
-    /// A party that makes no call.
-    Manual,
-    /// The clock.
+    Party(Player<()>),
     Clock,
 }
 
@@ -40,9 +33,9 @@ pub(crate) fn seen_count(turns: &[Turn], v: PartyId, arc: ArcId, whole: u32) -> 
     ensures { (h : List Entry) → length h ≡ whole → result ≡ length (pass_start (turn_actor turns.now v) arc h) }
 {
     match &turns[v as usize].actor {
-        Actor::Conforming(machine) => machine.known(arc).count(),
-        Actor::Planned(planner) => planner.count(arc) as u32,
-        Actor::Manual => whole,
+        Actor::Party(Player::Conforming(machine, _)) => machine.known(arc).count(),
+        Actor::Party(Player::Planned(planner)) => planner.count(arc) as u32,
+        Actor::Party(Player::Manual) => whole,
         Actor::Clock => whole,
     }
 }

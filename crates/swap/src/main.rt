@@ -36,7 +36,7 @@ fn main(rt: HostRuntime) -> ExitCode {
                     strategies: &strategies,
                     gate: &OpenGate,
                 };
-                swap_top(&rt, rt.alloc(), &words, &mut source, &mut sink, hooks)
+                swap_top(&rt, rt.alloc(), &words, &mut source, &mut sink, &hooks)
             } else {
                 swap_plain(rt.alloc(), &words, &mut source, &mut sink, &strategies)
             }

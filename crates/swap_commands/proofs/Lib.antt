@@ -1,5 +1,4 @@
 pub mod Walks
-pub mod Recorded
 pub mod Replays
 pub mod Reports
 pub mod Raced

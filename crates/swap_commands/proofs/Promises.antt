@@ -30,7 +30,7 @@ use Rattle.made_jobs.proofs.Copying.{lines_put}
 use Rattle.offer_fields.proofs.Chains.{went}
 use Rattle.command_input.specs.Written.{Written}
 use Rattle.swap_commands.specs.Output.{AreGiven, command_cast, run_state, collected_book, finished_state, book_report, reported, written_check}
-use Rattle.swap_commands.specs.Recorded.{AreRecorded}
+use Rattle.swap_world.specs.Recorded.{AreRecorded}
 use Rattle.swap_commands.specs.Promised.{IsPromised, IsRace, IsRun, IsCheck, IsMaking}
 use Rattle.party_threads.specs.Race.{IsRaceBook}
 use Rattle.swap_commands.specs.Replay.{skipped_event, folded_events}

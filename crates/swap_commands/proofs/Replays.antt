@@ -36,7 +36,7 @@ use Rattle.made_jobs.specs.Generating.{IsJobWorld}
 use Rattle.made_jobs.proofs.Copying.{made_is}
 use Rattle.swap_commands.specs.Output.{AreGiven, Chance, command_cast, command_purpose, finished_state, collected_book, reported, written_check, output_given_chance}
 use Rattle.swap_commands.specs.Output.{job_output, plain_text}
-use Rattle.swap_commands.specs.Recorded.{AreRecorded}
+use Rattle.swap_world.specs.Recorded.{AreRecorded}
 use Rattle.swap_commands.specs.Walk.{lines_told}
 use Rattle.swap_commands.specs.Replay.{folded_events, skipped_event, IsConcluded, of_run, of_race, of_check, of_lines, of_make}
 

@@ -29,7 +29,7 @@ use Rattle.command_input.specs.declared.fault.InputFault.{InputFault}
 use Rattle.command_input.specs.declared.fault.InputFault.TheVariants as fault
 use Rattle.command_input.proofs.Streams.{calm_unread, has_stopped}
 use Rattle.swap_commands.specs.Output.{AreGiven, Chance, by_answers, by_book, command_cast, finished_state, no_chance, output_given_chance, reported, written_check, plain_text}
-use Rattle.swap_commands.specs.Recorded.{AreRecorded}
+use Rattle.swap_world.specs.Recorded.{AreRecorded}
 use Rattle.swap_commands.specs.Promised.{AsPromised}
 use Rattle.swap_commands.specs.Says.{CommandSays, HasRead, IsCommandRefusal, StatusSays}
 use Rattle.command_input.specs.Written.{StatusWrites, Written}

@@ -3,7 +3,6 @@ pub mod Words
 pub mod Many
 pub mod Output
 pub mod Cleared
-pub mod Recorded
 pub mod Promised
 pub mod Replay
 pub mod ManyRead

@@ -37,7 +37,7 @@ use Rattle.many_text.specs.ManyText.{swap_book, kept_report}
 use Rattle.party_threads.specs.Race.{IsRaceBook}
 use Rattle.swap_commands.specs.Cleared.{IsClearing}
 use Rattle.swap_commands.specs.Many.{Headed, events_told, headed, many_state, many_written, opened_places, finished_run}
-use Rattle.swap_commands.specs.Recorded.{AreRecorded}
+use Rattle.swap_world.specs.Recorded.{AreRecorded}
 use Rattle.swap_commands.specs.Output.{AreGiven, Chance, collected_book, command_cast, run_state, command_purpose, book_report, reported, written_check}
 use Rattle.made_jobs.specs.Making.{IsMade}
 use Rattle.swap_commands.specs.Words.{Command, OfJob, Audit, Clear, Many, JobCommand, Check, Run, Race, Make}

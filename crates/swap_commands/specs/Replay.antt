@@ -21,7 +21,7 @@ use Rattle.swap_gen.specs.Made.{made}
 use Rattle.made_jobs.specs.Making.{copied, written_line}
 use Rattle.made_jobs.specs.Generating.{IsJobWorld}
 use Rattle.swap_commands.specs.Output.{AreGiven, Chance, command_cast, finished_state, plain_text, reported, written_check}
-use Rattle.swap_commands.specs.Recorded.{AreRecorded}
+use Rattle.swap_world.specs.Recorded.{AreRecorded}
 use Rattle.command_input.specs.Written.{Written}
 use Rattle.swap_commands.specs.Words.{JobCommand, Check, Run, Race, Make}
 

@@ -9,7 +9,6 @@
 
 mod check;
 mod clear;
-mod disks;
 mod finish;
 mod generating;
 mod header;

@@ -82,13 +82,13 @@ pub fn race<R: Threads + Wait + Sync, K: Sink, G: Gate, A: Strategies + Sync>(
     order: RaceOrder,
     prepared: Prepared,
     sink: &mut K,
-    hooks: Hooks<'_, A, G>,
+    hooks: &Hooks<'_, A, G>,
 ) -> Status
-    requires can { CanRace (A.holds hooks.strategies.now) prepared }
+    requires can { CanRace (A.holds hooks.now.strategies.now) prepared }
     requires some { 1 ≤ order.ticks }
     requires below { order.ticks ≤ 1000 }
-    ensures { (left left' : Option (List ℕ)) (n m : ℕ) → HasEntered (A.holds hooks.strategies.now) left left' prepared.job
-        → StatusSays (given_strategies (A.holds hooks.strategies.now) (A.gives hooks.strategies.now)) (OfJob (Race order.ticks order.transcript))
+    ensures { (left left' : Option (List ℕ)) (n m : ℕ) → HasEntered (A.holds hooks.now.strategies.now) left left' prepared.job
+        → StatusSays (given_strategies (A.holds hooks.now.strategies.now) (A.gives hooks.now.strategies.now)) (OfJob (Race order.ticks order.transcript))
         (streams left n (K.taken sink.old) (K.faults sink.old)) (streams left' m (K.taken sink.new) (K.faults sink.new)) result }
 {
     let Prepared { job, wallets, .. } = prepared;

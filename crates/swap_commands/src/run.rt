@@ -32,7 +32,6 @@ ghost use Rattle.swap_commands.specs.Walk.{ReadsOrStops};
 ghost use Rattle.swap_commands.specs.Words.{OfJob, Run};
 ghost use Rattle.swap_commands.specs.Strategies.{given_strategies};
 
-use crate::disks::look_at_disks;
 use crate::finish::finish;
 use crate::header::first_line;
 use crate::replay::replay;
@@ -98,7 +97,7 @@ fn conclude<A: Strategies>(
         → IsDealt job.now.deal (is_conforming_party job.now.conforming) b.histories) }
 {
     finish(&mut world, strategies, job)?;
-    look_at_disks(&world);
+    world.recorded();
     world.into_book(alloc)
 }
 

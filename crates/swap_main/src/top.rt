@@ -26,11 +26,11 @@ fn perform_race<R: Threads + Wait + Sync, S: Source, K: Sink, G: Gate, A: Strate
     order: RaceOrder,
     source: &mut S,
     sink: &mut K,
-    hooks: Hooks<'_, A, G>,
+    hooks: &Hooks<'_, A, G>,
 ) -> Status
     requires some { 1 ≤ order.ticks }
     requires below { order.ticks ≤ 1000 }
-    ensures says { StatusSays (given_strategies (A.holds hooks.strategies.now) (A.gives hooks.strategies.now)) (OfJob (Race order.ticks order.transcript))
+    ensures says { StatusSays (given_strategies (A.holds hooks.now.strategies.now) (A.gives hooks.now.strategies.now)) (OfJob (Race order.ticks order.transcript))
         (streams (S.left source.old) (S.faults source.old) (K.taken sink.old) (K.faults sink.old))
         (streams (S.left source.new) (S.faults source.new) (K.taken sink.new) (K.faults sink.new)) result }
     ensures calm { ¬ (result ≡ Status.ReadFault) → S.faults source.new ≡ S.faults source.old }
@@ -88,13 +88,13 @@ pub fn swap_top<R: Threads + Wait + Sync, S: Source, K: Sink, G: Gate, A: Strate
     words: &Vec<String>,
     source: &mut S,
     sink: &mut K,
-    hooks: Hooks<'_, A, G>,
+    hooks: &Hooks<'_, A, G>,
 ) -> Status
     // Wrong words are those that aren't well formed.
     ensures words { (result ≡ Status.WrongWords) ↔ (task_text (map string_bytes words.now.items) ≡ None) }
     ensures unread { result ≡ Status.WrongWords → source.new ≡ source.old }
     ensures unread_by_number { (request : Request) → words_request (map string_bytes words.now.items) ≡ Some request → source.new ≡ source.old }
-    ensures answer { IsAnswer (given_strategies (A.holds hooks.strategies.now) (A.gives hooks.strategies.now)) (map string_bytes words.now.items)
+    ensures answer { IsAnswer (given_strategies (A.holds hooks.now.strategies.now) (A.gives hooks.now.strategies.now)) (map string_bytes words.now.items)
         (streams (S.left source.old) (S.faults source.old) (K.taken sink.old) (K.faults sink.old))
         (streams (S.left source.new) (S.faults source.new) (K.taken sink.new) (K.faults sink.new)) result }
     // No read failed, unless the status tells of it.

@@ -76,7 +76,7 @@ fn command_status<R: Threads + Wait + Sync, G: Gate>(
     words: &Vec<String>,
     source: &mut VecSource,
     sink: &mut TextSink,
-    hooks: Hooks<'_, Kit, G>,
+    hooks: &Hooks<'_, Kit, G>,
 ) -> Status {
     swap_top(rt, alloc, words, source, sink, hooks)
 }
@@ -87,7 +87,7 @@ fn command_answer<R: Threads + Wait + Sync, G: Gate>(
     alloc: Global,
     command: &str,
     source: &mut VecSource,
-    hooks: Hooks<'_, Kit, G>,
+    hooks: &Hooks<'_, Kit, G>,
 ) -> Result<String, Fail> {
     let words = collect_words(alloc, command)?;
     let mut sink = TextSink::new(alloc);
@@ -110,7 +110,7 @@ pub(crate) fn answer<R: Threads + Wait + Sync, G: Gate>(
         strategies: kit,
         gate,
     };
-    command_answer(rt, alloc, command, &mut source, hooks)
+    command_answer(rt, alloc, command, &mut source, &hooks)
 }
 
 /// What an audit answers of a race of the job, in which nothing is found.

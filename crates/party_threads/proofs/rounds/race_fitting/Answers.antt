@@ -45,8 +45,8 @@ pub returns : goal.returns
 returns g c =
     let is =
     c.in_ok-book.ensures ∙ ap race_book (with_items_is c.in_ok-ledgers.ledgers c.run_rounds.new.ledgers (search (rules, places))) in
-    subst (λ (b : Histories). IsRaceBook (g.A.Strategies.gives c.args.hooks.strategies.now) (job_cast c.args.job.now) c.args.ticks b) (sym is)
-    (races_are_kept (g.A.Strategies.gives c.args.hooks.strategies.now) (job_cast c.args.job.now) c.args.ticks
+    subst (λ (b : Histories). IsRaceBook (g.A.Strategies.gives c.args.hooks.now.strategies.now) (job_cast c.args.job.now) c.args.ticks b) (sym is)
+    (races_are_kept (g.A.Strategies.gives c.args.hooks.now.strategies.now) (job_cast c.args.job.now) c.args.ticks
     (race_state c.args.job.now c.run_rounds.new.ledgers c.run_rounds.new.turns)
     (cast c.args.job.now c.in_ok-turns.turns.items c.requires.accepted c.requires.seeds c.requires.roles c.requires.fit c.in_ok-turns.ensures)
     c.requires.some c.in_ok-run_rounds.ensures.raced (subst IsTypedBook is c.visit_book.ensures))

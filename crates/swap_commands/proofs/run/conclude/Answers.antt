@@ -4,7 +4,7 @@ use Rattle.swap_commands.proofs.run.conclude.Goals as goal
 pub returns-clause-book : goal.returns-clause-book
 returns-clause-book g c =
     concluded_book (g.A.Strategies.gives c.args.strategies.now) c.args.job.now c.args.world c.finish.new.world c.requires.of c.into_book.result
-    c.into_book.ensures.value c.requires.asked c.in_ok-finish.ensures.gone c.look_at_disks.ensures
+    c.into_book.ensures.value c.requires.asked c.in_ok-finish.ensures.gone c.recorded.ensures
 
 pub returns-clause-kept : goal.returns-clause-kept
 returns-clause-kept g c =
@@ -12,7 +12,7 @@ returns-clause-kept g c =
     (is_of_still (g.A.Strategies.gives c.args.strategies.now) c.args.job.now c.args.world c.finish.new.world c.requires.of _ c.in_ok-finish.ensures.gone)
     c.into_book.result c.into_book.ensures.value c.into_book.ensures.kept
 
-pub look_at_disks-requires : goal.look_at_disks-requires
-look_at_disks-requires g c =
+pub recorded-requires : goal.recorded-requires
+recorded-requires g c =
     goes_on_still (g.A.Strategies.gives c.args.strategies.now) c.args.job.now c.args.world c.finish.new.world c.requires.of _ c.in_ok-finish.ensures.gone
     c.requires.goes_on

@@ -17,7 +17,7 @@ returns-in-Ok-clause-says g c =
 pub returns-in-Err-clause-says : goal.returns-in-Err-clause-says
 returns-in-Err-clause-says g c =
     rw c.unread.ensures
-    (says_unread (g.A.Strategies.holds c.args.hooks.strategies.now) (g.A.Strategies.gives c.args.hooks.strategies.now) (OfJob (Race c.args.order.ticks c.args.order.transcript))
+    (says_unread (g.A.Strategies.holds c.args.hooks.now.strategies.now) (g.A.Strategies.gives c.args.hooks.now.strategies.now) (OfJob (Race c.args.order.ticks c.args.order.transcript))
     (g.S.Source.left c.args.source.now) (g.S.Source.left c.enter.new.source) (g.S.Source.faults c.args.source.now)
     (g.S.Source.faults c.enter.new.source) c.in-Err.ensures.stopped.now (g.K.Sink.taken c.args.sink.now) (g.K.Sink.taken c.args.sink.now)
     (g.K.Sink.faults c.args.sink.now) (g.K.Sink.faults c.args.sink.now) (Keeps-refl (g.K.Sink.taken c.args.sink.now)) c.in-Err.fault

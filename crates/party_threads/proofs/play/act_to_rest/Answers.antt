@@ -1,16 +1,16 @@
 use Rattle.std.proofs.Common.{◌≡◌, arith, refl}
 use Rattle.swap_run.specs.Fair.{most_acts}
 use Rattle.party_threads.proofs.Acting.{acts_begin, acts_on, acts_end}
-use Rattle.party_threads.proofs.machine_turn.act_to_rest.Goals as goal
+use Rattle.party_threads.proofs.play.act_to_rest.Goals as goal
 
 pub acts-init : goal.acts-init
-acts-init g c = acts_begin c.args.side.now.ledgers.now c.args.machine.now c.args.passes.now 0 refl c.requires.able c.requires.watching
+acts-init g c = acts_begin c.args.side.now.ledgers.now c.args.machine.now c.args.passes.now 0 refl c.requires.seated
 
 pub acts-preserved : goal.acts-preserved
 acts-preserved g c =
     let e = c.in_ok-act.ensures in
     acts_on c.args.side.now.ledgers.now c.args.machine.now c.acts.machine c.act.new.machine c.args.passes.now c.acts.passes c.act.new.passes c.acts.counter
-    c.acts.invariant e.gone_on e.able e.watching e.seen e.owner e.elsewhere (e.fewer c.if-not-branch.false)
+    c.acts.invariant e.gone_on e.seated e.seen e.owner e.elsewhere (e.fewer c.if-not-branch.false)
 
 pub returns-clause-rests : goal.returns-clause-rests
 returns-clause-rests g c =

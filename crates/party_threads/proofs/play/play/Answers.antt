@@ -2,7 +2,7 @@ use Rattle.std.proofs.Common.{rules}
 use Rattle.std.proofs.lemmas.List.{with_items_is, places}
 use Rattle.swap_world.proofs.Ledgers.{on_ok}
 use Rattle.party_threads.proofs.Playing.{conforming_did, planned_did}
-use Rattle.party_threads.proofs.round.play.Goals as goal
+use Rattle.party_threads.proofs.play.play.Goals as goal
 
 pub returns-in-Conforming-clause-did : goal.returns-in-Conforming-clause-did
 returns-in-Conforming-clause-did g c =

@@ -1,6 +1,6 @@
 use Rattle.swap_world.proofs.Ledgers.{on_ok}
 use Rattle.party_threads.proofs.Planning.{can_call, has_done, has_done_nothing}
-use Rattle.party_threads.proofs.planner_turn.make.Goals as goal
+use Rattle.party_threads.proofs.play.make.Goals as goal
 
 pub submit-requires-clause-can : goal.submit-requires-clause-can
 submit-requires-clause-can g c =

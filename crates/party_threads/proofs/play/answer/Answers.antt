@@ -3,7 +3,7 @@ use Rattle.swap_job.specs.Fitting.{IsPartyMove}
 use Rattle.deviators.proofs.Scripts.{left_fit}
 use Rattle.swap_run.specs.Run.{Plan}
 use Rattle.swap_world.proofs.Ledgers.{on_ok}
-use Rattle.party_threads.proofs.planner_turn.answer.Goals as goal
+use Rattle.party_threads.proofs.play.answer.Goals as goal
 
 pub returns-in-Script-clause-moves : goal.returns-in-Script-clause-moves
 returns-in-Script-clause-moves g c =

@@ -1,5 +1,5 @@
 use Rattle.party_threads.proofs.Planning.{has_planned}
-use Rattle.party_threads.proofs.planner_turn.take_planner_turn.Goals as goal
+use Rattle.party_threads.proofs.play.take_planner_turn.Goals as goal
 
 pub returns-clause-planned : goal.returns-clause-planned
 returns-clause-planned g c =

@@ -1,4 +1,4 @@
-use Rattle.party_threads.proofs.machine_turn.MachineLearner.learn.Given as goal
+use Rattle.party_threads.proofs.play.MachineLearner.learn.Given as goal
 
 abbrev pub ghosts-learn_entries_counted : goal.ghosts-learn_entries_counted
 ghosts-learn_entries_counted a = record { name = a.blank.name; parts = a.blank.parts }
