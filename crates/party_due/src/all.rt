@@ -9,6 +9,7 @@ ghost use Rattle.party_wallet.specs.Value.{signed_hashkey};
 ghost use Rattle.party_machine.specs.Wallet.{seed_wallet};
 ghost use Rattle.party_due.specs.Actions.{actions, is_lock_stopped};
 
+use crate::asker::Asker;
 use crate::due_call::DueCall;
 use crate::publishes::put_publishes;
 use crate::settling::{put_claims, put_refunds};
@@ -39,10 +40,16 @@ pub fn all_useful(
         ≡ useful_unless_stopped (is_lock_stopped signer.now.stopped.now) deal.now me (seed_wallet signer.now.seed.now me deal.now)
         (signed_hashkey signer.now.kept.now.keys) (all_entries known.now)) }
 {
+    let asker = Asker {
+        deal,
+        me,
+        signer: *signer,
+        known,
+    };
     let mut calls = Vec::new(alloc);
-    put_publishes(alloc, deal, me, known, &mut calls)?;
-    put_unlocks(alloc, deal, me, signer, known, &mut calls)?;
-    put_claims(deal, me, known, &mut calls)?;
-    put_refunds(deal, me, known, &mut calls)?;
+    put_publishes(alloc, &asker, &mut calls)?;
+    put_unlocks(alloc, &asker, &mut calls)?;
+    put_claims(&asker, &mut calls)?;
+    put_refunds(&asker, &mut calls)?;
     Ok(calls)
 }

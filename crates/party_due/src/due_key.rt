@@ -1,27 +1,22 @@
 //! The hashkey of the unlocks for a lock.
 
 ghost use Rattle.std.specs.Prelude.{◌≡◌, ◌<◌, false, Some, IfOk, IsSome, length};
-ghost use Rattle.swap_digraph.specs.Deal.{IsWellSized};
-ghost use Rattle.ledger_core.specs.Book.{IsLegalBook};
 ghost use Rattle.ledger_core.specs.Facts.{opened_key};
-ghost use Rattle.history_index.specs.Indexes.{all_entries, AreIndexes};
 ghost use Rattle.swap_rules.specs.Due.{due_key, extended};
 ghost use Rattle.party_wallet.specs.Value.{signed_hashkey};
 ghost use Rattle.due_calls.specs.DueUnlock.{due_base};
 ghost use Rattle.due_calls.specs.Unlocks.{make_due_key};
-ghost use Rattle.party_machine.specs.Wallet.{seed_wallet};
 ghost use Rattle.party_machine.specs.Unlocking.{IsSignable};
-ghost use Rattle.party_due.specs.Actions.{is_lock_stopped};
+ghost use Rattle.party_due.specs.Asker.{asker_key, asker_wallet, is_stopped, known_entries, IsDealAsker};
 
-use crate::signer::Signer;
+use crate::asker::Asker;
 use due_calls::{Base, due_base};
 use hashkey_path::Hashkey;
 use history_index::Index;
 use ledger_core::Facts;
 use party_wallet::{Signed, sign_onto_anew, sign_own_anew};
 use std::alloc::Global;
-use swap_base::{LockId, NoMemory, PartyId, Shared, TryCopy};
-use swap_digraph::Deal;
+use swap_base::{LockId, NoMemory, Shared, TryCopy};
 
 /// A copy of the hashkey that was kept for the lock.
 fn copy_kept(kept: &Signed, lock: LockId) -> Result<Shared<Hashkey>, NoMemory>
@@ -36,39 +31,31 @@ fn copy_kept(kept: &Signed, lock: LockId) -> Result<Shared<Hashkey>, NoMemory>
 }
 
 /// The party's own hashkey for the lock, which isn't stopped.
-fn own_key(
-    alloc: Global,
-    deal: &Deal,
-    me: PartyId,
-    signer: &Signer<'_>,
-    lock: LockId,
-) -> Result<Shared<Hashkey>, NoMemory>
-    requires me { me < deal.now.graph.n }
-    requires unstopped { is_lock_stopped signer.now.stopped.now lock ≡ false }
-    ensures { IfOk result (λ k. k ≡ (seed_wallet signer.now.seed.now me deal.now).first lock) }
+fn own_key(alloc: Global, asker: &Asker<'_>, lock: LockId) -> Result<Shared<Hashkey>, NoMemory>
+    requires asker { IsDealAsker asker.now }
+    requires unstopped { is_stopped asker.now lock ≡ false }
+    ensures { IfOk result (λ k. k ≡ (asker_wallet asker.now).first lock) }
 {
-    let key = sign_own_anew(alloc, deal, me, signer.seed, lock)?;
+    let key = sign_own_anew(alloc, asker.deal, asker.me, asker.signer.seed, lock)?;
     Shared::new(alloc, key)
 }
 
 /// The party's signature put onto the hashkey that opened the lock there, which isn't stopped.
 fn extend_key(
     alloc: Global,
-    deal: &Deal,
-    me: PartyId,
-    signer: &Signer<'_>,
+    asker: &Asker<'_>,
     index: &Index,
     lock: LockId,
 ) -> Result<Shared<Hashkey>, NoMemory>
-    requires me { me < deal.now.graph.n }
-    requires unstopped { is_lock_stopped signer.now.stopped.now lock ≡ false }
+    requires asker { IsDealAsker asker.now }
+    requires unstopped { is_stopped asker.now lock ≡ false }
     requires lock { lock < length index.now.terms.locks }
-    requires onto { IsSignable deal.now lock (opened_key index.now.entries lock) }
-    ensures { IfOk result (λ k. extended (seed_wallet signer.now.seed.now me deal.now) (opened_key index.now.entries lock) ≡ Some k) }
+    requires onto { IsSignable asker.now.deal.now lock (opened_key index.now.entries lock) }
+    ensures { IfOk result (λ k. extended (asker_wallet asker.now) (opened_key index.now.entries lock) ≡ Some k) }
 {
     match index.opened_key(lock) {
         Some(inner) => {
-            let key = sign_onto_anew(alloc, deal, me, signer.seed, inner)?;
+            let key = sign_onto_anew(alloc, asker.deal, asker.me, asker.signer.seed, inner)?;
             Shared::new(alloc, key)
         }
         None => unreachable!(),
@@ -78,27 +65,20 @@ fn extend_key(
 /// The hashkey that comes from there, for a lock that isn't stopped.
 fn make_due_key(
     alloc: Global,
-    deal: &Deal,
-    me: PartyId,
-    signer: &Signer<'_>,
-    known: &[Index],
+    asker: &Asker<'_>,
     lock: LockId,
     base: Base,
 ) -> Result<Shared<Hashkey>, NoMemory>
-    requires sized { IsWellSized deal.now }
-    requires me { me < deal.now.graph.n }
-    requires known { AreIndexes deal.now known.now }
-    requires legal { IsLegalBook deal.now (all_entries known.now) }
-    requires unstopped { is_lock_stopped signer.now.stopped.now lock ≡ false }
-    requires lock { lock < length deal.now.leaders }
-    requires kept { length signer.now.kept.now.keys ≡ length deal.now.leaders }
-    requires base { due_base deal.now me (signed_hashkey signer.now.kept.now.keys lock) (all_entries known.now) lock ≡ Some base }
-    ensures { IfOk result (λ k. make_due_key (seed_wallet signer.now.seed.now me deal.now) (signed_hashkey signer.now.kept.now.keys) (all_entries known.now) lock base ≡ Some k) }
+    requires asker { IsDealAsker asker.now }
+    requires unstopped { is_stopped asker.now lock ≡ false }
+    requires lock { lock < length asker.now.deal.now.leaders }
+    requires base { due_base asker.now.deal.now asker.now.me (asker_key asker.now lock) (known_entries asker.now) lock ≡ Some base }
+    ensures { IfOk result (λ k. make_due_key (asker_wallet asker.now) (asker_key asker.now) (known_entries asker.now) lock base ≡ Some k) }
 {
     match base {
-        Base::Signed => copy_kept(signer.kept, lock),
-        Base::Own => own_key(alloc, deal, me, signer, lock),
-        Base::Onto(arc) => extend_key(alloc, deal, me, signer, &known[arc as usize], lock),
+        Base::Signed => copy_kept(asker.signer.kept, lock),
+        Base::Own => own_key(alloc, asker, lock),
+        Base::Onto(arc) => extend_key(alloc, asker, &asker.known[arc as usize], lock),
     }
 }
 
@@ -107,24 +87,17 @@ fn make_due_key(
 /// one that it makes from a hashkey that it saw.
 pub(crate) fn due_key(
     alloc: Global,
-    deal: &Deal,
-    me: PartyId,
-    signer: &Signer<'_>,
-    known: &[Index],
+    asker: &Asker<'_>,
     lock: LockId,
 ) -> Result<Option<Shared<Hashkey>>, NoMemory>
-    requires sized { IsWellSized deal.now }
-    requires me { me < deal.now.graph.n }
-    requires known { AreIndexes deal.now known.now }
-    requires legal { IsLegalBook deal.now (all_entries known.now) }
-    requires unstopped { is_lock_stopped signer.now.stopped.now lock ≡ false }
-    requires lock { lock < length deal.now.leaders }
-    requires kept { length signer.now.kept.now.keys ≡ length deal.now.leaders }
-    ensures { IfOk result (λ o. o ≡ due_key deal.now me (seed_wallet signer.now.seed.now me deal.now) (signed_hashkey signer.now.kept.now.keys lock) (all_entries known.now) lock) }
+    requires asker { IsDealAsker asker.now }
+    requires unstopped { is_stopped asker.now lock ≡ false }
+    requires lock { lock < length asker.now.deal.now.leaders }
+    ensures { IfOk result (λ o. o ≡ due_key asker.now.deal.now asker.now.me (asker_wallet asker.now) (asker_key asker.now lock) (known_entries asker.now) lock) }
 {
-    match due_base(deal, me, known, signer.kept, lock) {
+    match due_base(asker.deal, asker.me, asker.known, asker.signer.kept, lock) {
         Some(base) => {
-            let key = make_due_key(alloc, deal, me, signer, known, lock, base)?;
+            let key = make_due_key(alloc, asker, lock, base)?;
             Ok(Some(key))
         }
         None => Ok(None),

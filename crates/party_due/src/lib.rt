@@ -7,6 +7,7 @@
 #![tactic(auto)]
 
 mod all;
+mod asker;
 mod due_call;
 mod due_key;
 mod publishes;

@@ -1,17 +1,19 @@
 //! Hashkeys that a leader had better not present.
 
-ghost use Rattle.std.specs.Prelude.{◌≡◌, ◌<◌, ◌+◌, nat_le, is_none};
+ghost use Rattle.std.specs.Prelude.{◌≡◌, ◌+◌, nat_le, is_none};
 ghost use Rattle.std.specs.List.{list_any, list_all};
 ghost use Rattle.time_bounds.specs.Times.{opening_deadline};
 ghost use Rattle.swap_digraph.specs.Graph.{entering};
 ghost use Rattle.swap_digraph.specs.Deal.{IsWellSized};
 ghost use Rattle.ledger_core.specs.History.{height};
 ghost use Rattle.ledger_core.specs.Book.{history};
-ghost use Rattle.history_index.specs.Indexes.{all_entries, AreIndexes};
+ghost use Rattle.history_index.specs.Indexes.{all_entries};
 ghost use Rattle.swap_rules.specs.Party.{first_key};
 ghost use Rattle.swap_rules.specs.Due.{has_called, unlocks_lock};
 ghost use Rattle.swap_rules.specs.Walking.{is_withheld};
+ghost use Rattle.party_due.specs.Asker.{known_entries, IsDealAsker};
 
+use crate::asker::Asker;
 use due_calls::{arc_height, leads};
 use history_index::Index;
 use ledger_core::{CallKind, Facts};
@@ -52,27 +54,26 @@ fn own_deadline(deal: &Deal) -> u64
 }
 
 /// Whether each arc that enters the party still accepts the party's own hashkey.
-fn is_early(deal: &Deal, me: PartyId, known: &[Index]) -> bool
-    requires sized { IsWellSized deal.now }
-    requires me { me < deal.now.graph.n }
-    ensures { result ≡ list_all (λ a.
-        nat_le (height (history (all_entries known.now) a)) (opening_deadline deal.now.start deal.now.delta deal.now.bound + deal.now.delta))
-        (entering deal.now.graph me) }
+fn is_early(asker: &Asker<'_>) -> bool
+    requires asker { IsDealAsker asker.now }
+    ensures { let d = asker.now.deal.now in
+        result ≡ list_all (λ a. nat_le (height (history (known_entries asker.now) a)) (opening_deadline d.start d.delta d.bound + d.delta))
+        (entering d.graph asker.now.me) }
 {
-    let last = own_deadline(deal);
-    let entering = deal.graph.entering(me);
+    let last = own_deadline(asker.deal);
+    let entering = asker.deal.graph.entering(asker.me);
     entering
         .iter()
-        .all(|arc| arc_height(known, *arc) as u64 <= last)
+        .all(|arc| arc_height(asker.known, *arc) as u64 <= last)
 }
 
 /// Whether the party leads the lock, has presented no hashkey for it, and would present its own too
 /// late on some arc that enters it: the others could extend it, and the party not be paid.
-pub(crate) fn is_withheld(deal: &Deal, me: PartyId, known: &[Index], lock: LockId) -> bool
-    requires sized { IsWellSized deal.now }
-    requires me { me < deal.now.graph.n }
-    requires known { AreIndexes deal.now known.now }
-    ensures { result ≡ is_withheld deal.now me (all_entries known.now) lock }
+pub(crate) fn is_withheld(asker: &Asker<'_>, lock: LockId) -> bool
+    requires asker { IsDealAsker asker.now }
+    ensures { result ≡ is_withheld asker.now.deal.now asker.now.me (known_entries asker.now) lock }
 {
-    leads(deal, me, lock) && is_unrevealed(me, known, lock) && !is_early(deal, me, known)
+    leads(asker.deal, asker.me, lock)
+        && is_unrevealed(asker.me, asker.known, lock)
+        && !is_early(asker)
 }

@@ -5,12 +5,15 @@ use Rattle.std.specs.List.{range_with_len}
 use Rattle.std.proofs.lemmas.List.FromFn.{get_or-map-range_with_len}
 use Rattle.swap_digraph.specs.Value.{Graph}
 use Rattle.swap_job.specs.Step.{IsJobEvent}
+use Rattle.swap_job.specs.declared.job.Job.{Job}
 use Rattle.swap_rules.specs.Accepted.{IsAccepted}
 use Rattle.proposed_deal.specs.Proposed.{HaveSeeds, IsProposed}
 use Rattle.swap_gen.specs.Made.{made_deal}
 use Rattle.swap_gen.specs.Owned.{OwnsKeys}
 use Rattle.swap_gen.specs.Drawn.{drawn_graph, plain_deal, plain_job, drawn_seed, generated}
 use Rattle.swap_gen.specs.Events.{drawn_event}
+use Rattle.swap_gen.specs.Inside.{GeneratorHolds}
+use Rattle.swap_gen.specs.declared.generator.Generator.TheInside.{Inside}
 use Rattle.swap_gen.proofs.Proposing.{plain_is_proposed}
 use Rattle.swap_gen.proofs.Accepting.{made_is_accepted}
 use Rattle.swap_gen.proofs.Owning.{made_is_owned}
@@ -40,7 +43,7 @@ plain_has_seeds seed n p lt = some_seed seed n p (subst (λ (g : Graph). p < g.n
 pub generated_is_owned : (seed n : ℕ) → (p : ℕ) → p < (generated seed n).deal.graph.n → OwnsKeys (generated seed n) p
 generated_is_owned seed n p lt = made_is_owned (plain_job seed n) (plain_has_seeds seed n) p lt
 
--- the same of the job that a generator holds
+-- the job that a generator holds is accepted, and its parties own the keys
 pub held_is_accepted : (g : Inside) → GeneratorHolds g → IsAccepted g.job.deal
 held_is_accepted g k = subst (λ (j : Job). IsAccepted j.deal) (sym k.job) (generated_is_accepted g.draws.seed g.job.deal.graph.n k.parties.0 k.parties.1)
 

@@ -9,4 +9,4 @@ pub put_publish-requires-clause-arc : goal.put_publish-requires-clause-arc
 put_publish-requires-clause-arc c =
     let arcs = c.leaving-arc-items.result.now in
     let arc = slice_index_or arcs c.arcs.arc-index 0 in
-    (leaves c.args.deal.now c.args.me arc (subst (IsElement arc) c.leaving-arc-items.ensures (in_place arcs c.arcs.arc-index 0 c.arcs-test.true))).0
+    (leaves c.args.asker.now.deal.now c.args.asker.now.me arc (subst (IsElement arc) c.leaving-arc-items.ensures (in_place arcs c.arcs.arc-index 0 c.arcs-test.true))).0

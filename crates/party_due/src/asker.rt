@@ -1,0 +1,16 @@
+//! A party that asks what is useful to it.
+
+use crate::signer::Signer;
+use history_index::Index;
+use swap_base::PartyId;
+use swap_digraph::Deal;
+
+/// A party of a deal that asks what is useful to it: its number, what it signs with, and what it
+/// knows of each ledger.
+#[derive(Clone, Copy)]
+pub(crate) struct Asker<'a> {
+    pub deal: &'a Deal,
+    pub me: PartyId,
+    pub signer: Signer<'a>,
+    pub known: &'a [Index],
+}
