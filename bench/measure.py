@@ -5,7 +5,9 @@ from __future__ import annotations
 
 import argparse
 import os
+import re
 import resource
+import shutil
 import subprocess
 import sys
 import tempfile
@@ -130,6 +132,15 @@ def peak(program: Path, words: Sequence[str], text: bytes) -> float:
         file.seek(0)
         run = subprocess.run(["/usr/bin/time", "-f", "%M", program, *words], stdin=file, capture_output=True)
     return int(run.stderr.split()[-1]) / 1024
+
+
+def instructions(program: Path, words: Sequence[str], text: bytes) -> float:
+    """How many millions of instructions a run takes, by callgrind, if it is there."""
+    if not shutil.which("valgrind"):
+        return float("nan")
+    said = once(["valgrind", "--tool=callgrind", "--callgrind-out-file=/dev/null", program, *words], text).run.stderr
+    counted = re.search(rb"Collected : (\d+)", said)
+    return int(counted[1]) / 1e6 if counted else float("nan")
 
 
 # ---- D

@@ -18,7 +18,6 @@ use Rattle.ledger_shared.specs.contracts.shelf.Shelf as Shelf
 use Rattle.ledger_shared.specs.contracts.seat.LedgerSeat as LedgerSeat
 use Rattle.party_machine.specs.contracts.machine.Machine as Machine
 use Rattle.swap_run.specs.contracts.planner.Planner as Planner
-use Rattle.swap_world.specs.contracts.player.Player as Player
 use Rattle.ledger_shared.specs.contracts.pass.Pass as Pass
 use Rattle.ledger_shared.specs.contracts.pass.ClockPass as ClockPass
 use Rattle.party_threads.specs.contracts.turn.Actor as Actor
@@ -73,11 +72,8 @@ pass = search (seat, sendable, crosses) depth 60 fits 100000
 clock_pass : IsSend ClockPass.the_row
 clock_pass = search (seat, sendable, crosses) depth 60 fits 100000
 
-player : (T : RattleType) → IsSend T → IsSend (Player.the_row T)
-player T s = search (machine, planner, sendable, crosses) depth 40
-
 actor : IsSend Actor.the_row
-actor = search (player, sendable, crosses) depth 40
+actor = search (machine, planner, sendable, crosses) depth 60 fits 100000
 
 pub turn : IsSend Turn.the_row
 turn =

@@ -1,7 +1,7 @@
 -- A party that follows a script or a strategy: what its looks and its call leave of what it knows.
 use Rattle.std.proofs.Common.{◌≡◌, ◌≢◌, ◌⊎◌, ℕ, ◌+◌, ◌<◌, ◌≤◌, ◌==◌, ◌++◌, Bool, true, false, true≢false, List, [], ◌∷◌, length, set, take, Option}
 use Rattle.std.proofs.Common.{Some, None, append_assoc, append-nil, refl, sym, ap, ◌∙◌, subst, inl, inr, arith, eqb-true, eq-eqb, if◌then◌else◌}
-use Rattle.std.proofs.Common.{All, Result, Ok, Err, OnOk}
+use Rattle.std.proofs.Common.{All, Result, Ok, Err, OnOk, IfOk}
 use Rattle.std.proofs.lemmas.List.{length-set, set-set}
 use Rattle.swap_job.specs.Fitting.{is_near, IsPartyMove}
 use Rattle.swap_job.specs.Roles.{job_role}
@@ -172,12 +172,18 @@ whole_known ledgers w ps qs tracks gone all places a p lt e =
     (subst (IsPrefix went.0.shared) (seen_of ledgers w qs a went.0 tracks lt1 went.1) (all a went.0 lt1 went.1))
 
 -- the next call of a script is an answer of every party that follows no strategy
-pub followed : (gives : MayGive) (d : Deal) (seeds : Seeds) (v : ℕ) (o : Option (ℕ × Call)) (n m : Plan) (role : Role) → is_strategy role ≡ false
+followed : (gives : MayGive) (d : Deal) (seeds : Seeds) (v : ℕ) (o : Option (ℕ × Call)) (n m : Plan) (role : Role) → is_strategy role ≡ false
     → o ≡ script_call d seeds n.known n.moves → m.moves ≡ moves_left n.known n.moves → IsPlanAnswer gives d seeds v n.known o n m role
 followed gives d seeds v o n m (Script moves) none is left = (is, left)
 followed gives d seeds v o n m (Strategy name) none is left = absurd (true≢false none)
 followed gives d seeds v o n m Conforming none is left = tt
 followed gives d seeds v o n m Manual none is left = tt
+
+pub has_followed : {E : Type 0} (gives : MayGive) (d : Deal) (seeds : Seeds) (v : ℕ) (n m : Plan) (role : Role) (r : Result (Option (ℕ × Call)) E)
+    → is_strategy role ≡ false → IfOk r (λ o. o ≡ script_call d seeds n.known n.moves)
+    → OnOk r (m ≡ record n { moves = moves_left n.known n.moves; turns = n.turns + 1 }) → IfOk r (λ o. IsPlanAnswer gives d seeds v n.known o n m role)
+has_followed gives d seeds v n m role (Ok o) none is turned = followed gives d seeds v o n m role none is (ap (λ (p : Plan). p.moves) turned)
+has_followed gives d seeds v n m role (Err e) none is turned = tt
 
 answered_as : (gives : MayGive) (d : Deal) (seeds : Seeds) (v : ℕ) (view : Histories) (answer : Option (ℕ × Call)) (n0 n1 n2 n3 : Plan) (role : Role)
     → n1.moves ≡ n0.moves → n1.turns ≡ n0.turns → n3.moves ≡ n2.moves → IsPlanAnswer gives d seeds v view answer n1 n2 role

@@ -1,6 +1,5 @@
 -- The lines of an input tell events, one line after another.
 use Rattle.std.proofs.Common.{◌≡◌, ℕ, ◌+◌, true, List, [], ◌∷◌, ◌++◌, Result, Ok, Err, refl, sym, ap, ◌∙◌, subst, append_assoc, append-nil}
-use Rattle.std.specs.Prelude.{IfErr, OnOk}
 use Rattle.std.specs.List.{FoldsTo}
 use Rattle.swap_base.specs.Fault.{◌>>=◌, Fails}
 use Rattle.swap_base.specs.declared.fault.Fault.{Fault}
@@ -8,8 +7,7 @@ use Rattle.swap_base.specs.declared.fault.Fault.TheVariants as offer
 use Rattle.command_input.specs.Faults.{of_offer}
 use Rattle.command_input.specs.Input.{CanBeLeft, Desk, Ends, Fits, IsLast, IsLine, Stops, Tells, ahead}
 use Rattle.command_input.proofs.Streams.{IsStepAt, Led, led_none, led_on_at, led_to_end, led_to_fault_at, stops_as}
-use Rattle.command_input.specs.declared.fault.InputFault.{InputFault}
-use Rattle.swap_commands.specs.Walk.{HasTakenEvent, IsWalked, ReadsOrStops, lines_told}
+use Rattle.swap_commands.specs.Walk.{HasTakenEvent, IsWalked, lines_told}
 
 -- What is said of an input that was read to its end.
 
@@ -25,18 +23,6 @@ tells_all P s t e met =
       can = λ rest can over. same rest can ∙ e.can over;
       told = λ rest can. subst P (sym (same rest can)) e.told;
     }
-
--- What a walk says, whatever it answered.
-
-pub has_walked : {T R : Type 0} (P : Desk → Desk → Type 0) (Q : List ℕ → R → Type 0) (s t : Desk) (answer : Result T (InputFault R))
-    → ReadsOrStops (λ _. P) Q s t answer → OnOk answer (P s t)
-has_walked P Q s t (Ok x) h = h
-has_walked P Q s t (Err fault) h = tt
-
-pub walk_stopped : {T R : Type 0} (P : Desk → Desk → Type 0) (Q : List ℕ → R → Type 0) (s t : Desk) (answer : Result T (InputFault R))
-    → ReadsOrStops (λ _. P) Q s t answer → IfErr answer (Stops Q s t)
-walk_stopped P Q s t (Ok x) h = tt
-walk_stopped P Q s t (Err fault) h = h
 
 -- The events so far, and those of the lines ahead.
 

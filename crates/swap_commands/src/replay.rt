@@ -142,5 +142,6 @@ pub(crate) fn skip_events<S: Source>(
         (desk (S.left source.old) (S.faults source.old) input.old)
         (desk (S.left source.new) (S.faults source.new) input.new) e) }
 {
-    walk(alloc, job, &mut Skip, input, source)
+    walk(alloc, job, &mut Skip, input, source)?;
+    Ok(())
 }

@@ -4,8 +4,8 @@ use Rattle.audit_command.proofs.Reported.{few_told}
 use Rattle.audit_command.proofs.Statuses.{status_writes}
 use Rattle.audit_command.proofs.command.write_audit_report.Goals as goal
 
-pub write_report-requires-clause-parties : goal.write_report-requires-clause-parties
-write_report-requires-clause-parties g c =
+pub write_report-written-requires-clause-parties : goal.write_report-written-requires-clause-parties
+write_report-written-requires-clause-parties g c =
     few_told _ _ _ c.args.report.now c.requires.sound.report c.requires.told.whole.sized.parties.1
 
 pub returns : goal.returns

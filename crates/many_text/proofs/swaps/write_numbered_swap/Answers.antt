@@ -32,7 +32,7 @@ returns-in_err-hand_report-clause-hands g c =
     let p = err_from_is_err_and c.from_residual-in_err-hand_report.result c.from_residual-in_err-hand_report.ensures.1 in
     let told = c.in_ok-book.ensures in
     let s = c.args.number in
-    let text = report c.args.job.now c.in_ok-book.field-0.0.histories c.in_ok-book.field-0.1 in
+    let text = report c.args.job.now c.in_ok-book.book.histories c.in_ok-book.report in
     let e = c.in_err-hand_report.field-0.0 in
     let h = c.hand_report.ensures.hands in
     hands_err e _ _ _ _ _ _ _ _ (p.1 ∙ ap Err p.2)
@@ -45,7 +45,7 @@ pub returns-clause-hands : goal.returns-clause-hands
 returns-clause-hands g c =
     let told = c.in_ok-book.ensures in
     let s = c.args.number in
-    let text = report c.args.job.now c.in_ok-book.field-0.0.histories c.in_ok-book.field-0.1 in
+    let text = report c.args.job.now c.in_ok-book.book.histories c.in_ok-book.report in
     hands_ok _ _ _ _ _ _ _ _ _ refl
     (subst (λ (t : List ℕ). Handed (g.K.Sink.taken c.args.sink.now) c.args.out.now.items (g.K.Sink.taken c.hand_report.new.sink) c.hand_report.new.out.items t)
     (of_swap (many_kept c.args.world.now) s c.args.job.now _ _ told.book told.report)

@@ -7,14 +7,16 @@ use Rattle.party_threads.proofs.play.take_machine_turn.Goals as goal
 pub look_round-requires-clause-sized : goal.look_round-requires-clause-sized
 look_round-requires-clause-sized g c = accepted_is_well_sized c.args.machine.now.deal c.requires.seated.able.accepted
 
-pub act_to_rest-requires-clause-seated : goal.act_to_rest-requires-clause-seated
-act_to_rest-requires-clause-seated g c =
+pub act_to_rest-requires : goal.act_to_rest-requires
+act_to_rest-requires g c =
     let e = c.in_ok-look_round.ensures in
     record {
-      able =
-          able_looked c.args.side.now.ledgers.now c.args.machine.now c.look_round.new.learner c.args.passes.now c.look_round.new.passes _
-          c.requires.seated.able e.looked e.rest;
-      watching = e.looked.watching;
+      seated = record {
+        able =
+            able_looked c.args.side.now.ledgers.now c.args.machine.now c.look_round.new.learner c.args.passes.now c.look_round.new.passes _
+            c.requires.seated.able e.looked e.rest;
+        watching = e.looked.watching;
+      };
     }
 
 pub returns-clause-gone_on : goal.returns-clause-gone_on

@@ -20,5 +20,5 @@ returns-in-Ok g c = λ left left' n m e.
     says_race _ _ c.args.order.ticks c.args.order.transcript left left' n m _ _ _ _ c.args.prepared.job c.in-Ok.book.histories c.write_report_or_transcript.result e c.requires.can.accepted
     c.requires.can.purpose c.in-Ok.ensures c.write_report_or_transcript.ensures
 
-pub returns-in-Err : goal.returns-in-Err
-returns-in-Err g c = λ left left' n m e. inl (Keeps-refl (g.K.Sink.taken c.args.sink.now), (e.input, e.within, e.taken))
+pub returns : goal.returns
+returns g c = λ left left' n m e. inl (Keeps-refl (g.K.Sink.taken c.args.sink.now), (e.input, e.within, e.taken))
