@@ -42,8 +42,8 @@ pub record CanBeOpened (d : Deal) (k : Histories) (v : ℕ) (h : List Entry) : T
   pub room : is_full h v ≡ false
   pub own : (c : ℕ) (p : Publication) → IsElement c (leaving d.graph v) → published (history k c) ≡ Some p → p.terms ≡ stated_terms d c
 
--- Up to that height, and no longer, the contract of arc a accepts the hashkey of v, as its ledger
--- ticks on.
+-- The contract of arc a accepts the hashkey of v up to that height and at no height above it, as
+-- its ledger ticks on.
 pub record IsLastHeight (d : Deal) (k : Histories) (v a : ℕ) (key : Hashkey) (last : ℕ) : Type 0 where
   pub until : (more : List Entry) → are_ticks more ≡ true → height (history k a ++ more) ≤ last → CanBeOpened d k v (history k a ++ more)
       → history_reply d a (history k a ++ more) v (Unlock key) ≡ Accepted
@@ -64,8 +64,8 @@ FinishedStays =
     (d : Deal) (v : ℕ) (w : Wallet) (kept : ℕ → Option Hashkey) (k h : Histories) (x : Action) → IsAccepted d → IsLegalBook d k → IsLegalBook d h
     → are_finished d k v ≡ true → ContinuesWithoutParty v k h → IsElement x (useful d v w kept h) → IsElement x (useful d v w kept k)
 
--- where nothing is left of what is useful, ticks that don't bring a ledger above an expiry that v
--- waits for leave nothing
+-- where nothing useful is left, ticks of a ledger leave nothing as long as they don't pass an
+-- expiry for which v waits
 abbrev pub TicksLeaveNothing : Type 0
 TicksLeaveNothing =
     (d : Deal) (v : ℕ) (w : Wallet) (kept : ℕ → Option Hashkey) (stops : ℕ → Bool) (k : Histories) (a : ℕ) (more : List Entry)

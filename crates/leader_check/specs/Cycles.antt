@@ -26,8 +26,8 @@ unfoldable pub walks : Graph → List ℕ → ℕ → ℕ → ℕ → Bool
 walks g leaders v zero u = is_follower g leaders u && (u == v)
 walks g leaders v (suc k) u = is_follower g leaders u && enters_led g (walks g leaders v k) u
 
--- k vertices of a walk that begins with u: the least vertex comes next of those that f allows, and
--- f tells which it allows by the number of arcs that are left
+-- k vertices of a walk that begins with u. The next vertex is always the least one that f allows
+-- with as many arcs left.
 unfoldable pub least_walk : Graph → (ℕ → ℕ → Bool) → ℕ → ℕ → List ℕ
 least_walk g f zero u = []
 least_walk g f (suc k) u = u ∷ least_walk g f k (first_step g (f k) u)

@@ -45,14 +45,14 @@ abbrev pub IsRecorded : (List ℕ → Type 0) → Option (ℕ × Call) → Type 
 IsRecorded outcomes None = Unit {0}
 IsRecorded outcomes (Some x) = IsCallRecorded outcomes x.1
 
--- of a disk that reads as old, all is recorded as it was, but that the new hashkey, if there is
--- one, may be
+-- a disk that reads as old has recorded all as it was, and the new hashkey, if there is one, may be
+-- recorded too
 abbrev pub MayHave : List ℕ → Option Hashkey → List ℕ → Type 0
 MayHave old None c = ⊥
 MayHave old (Some key) c = MayHaveRecorded old key c
 
--- the writes that are synced and those that aren't, where a disk stopped after n calls before an
--- answer: it comes to none
+-- the synced writes and the others, where a disk stopped after n calls before an answer, which is
+-- then not given
 abbrev pub IsStoppedNext : {T : Type 0} → ℕ → Hashkey → List Write → List Write → List Write → Result T RecordFault → Type 0
 IsStoppedNext n k synced synced' loose' (Ok x) = ⊥
 IsStoppedNext n k synced synced' loose' (Err DiskFault) = IsStoppedRecording n k synced synced' loose'

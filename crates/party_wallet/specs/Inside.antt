@@ -11,8 +11,8 @@ use Rattle.party_wallet.specs.declared.wallet.Wallet.TheInside.{Inside}
 abbrev pub inside_wallet : Inside → WalletState
 inside_wallet w = record { mode = w.mode; seed = w.seed; party = w.party; signed = w.signed.keys }
 
--- A lock for which nothing is signed has its key ready, and of one for which a hashkey is signed
--- the key is gone.
+-- A lock for which nothing is signed has its key ready. Where a hashkey is signed for a lock, the
+-- lock's key is gone.
 pub record AreSpentOnce (m : Mode) (seed : List ℕ) (v : ℕ) (keys : List (Option KeyParts)) (signed : List (Option Hashkey)) : Type 0 where
   pub one_each : length keys ≡ length signed
   pub few : length signed ≤ 8

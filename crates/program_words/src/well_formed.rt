@@ -9,7 +9,7 @@ ghost use Rattle.program_words.specs.Words.{named_step, option_step, choice_step
 use crate::choice::Choice;
 use crate::verb::Verb;
 
-/// What comes of a word.
+/// What a word is among an option's words.
 #[derive(Clone, Copy, Debug, PartialEq, Eq)]
 enum Verdict {
     /// No well-formed words have it here.

@@ -33,8 +33,8 @@ ring n = map (ring_arc n) (range_with_len 0 n)
 abbrev pub drawn_ends : (seed n k : ℕ) → ArcEnds
 drawn_ends seed n k = record { from = word seed (1 + 2 * k) % n; to = word seed (2 + 2 * k) % n }
 
--- drawn ends become an arc where they are two parties between which none leads there yet, and don't
--- lead from a follower down to another
+-- drawn ends become an arc where they are two parties, no arc leads from the one to the other
+-- before, and they don't lead from a follower down to another one
 abbrev pub is_added : ℕ → List ArcEnds → ArcEnds → Bool
 is_added leaders arcs a = not (a.from == a.to) && not (list_any (same_ends a) arcs) && (nat_lt a.from leaders || nat_lt a.to leaders || nat_lt a.from a.to)
 

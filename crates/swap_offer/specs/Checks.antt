@@ -169,7 +169,8 @@ pub record IsHeaderGraph (h : Header) (g : Graph) : Type 0 where
   pub parties : g.n ≡ length h.names
   pub ends : HasEnds g
 
--- It is strongly connected, and the header's leaders are a feedback vertex set of that height.
+-- The digraph is strongly connected, and the header's leaders are a feedback vertex set of that
+-- height.
 pub record IsLedGraph (h : Header) (g : Graph) (height : ℕ) : Type 0 where
   pub of_header : IsHeaderGraph h g
   pub strong : IsStronglyConnected g

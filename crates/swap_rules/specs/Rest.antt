@@ -45,8 +45,8 @@ rest_deadline d v k = least_number (map (λ a. least_expiry d a (history k a)) (
 abbrev pub StaysLow : Deal → ℕ → Histories → ℕ → List Entry → Type 0
 StaysLow d v k a more = IsElement a (leaving d.graph v) → is_waiting d v k a ≡ true → height (history k a ++ more) ≤ least_expiry d a (history k a)
 
--- where nothing is due for v, ticks on arc a that don't bring its ledger above an expiry that v
--- waits for make nothing due
+-- where nothing is due for v, ticks of a ledger make nothing due as long as they don't pass an
+-- expiry for which v waits
 abbrev pub TicksMakeNothingDue : Type 0
 TicksMakeNothingDue = (d : Deal) (v : ℕ) (w : Wallet) (signed : ℕ → Option Hashkey) (k : Histories) (a : ℕ) (more : List Entry)
     → are_ticks more ≡ true → due d v w signed k ≡ [] → StaysLow d v k a more → due d v w signed (set k a (history k a ++ more)) ≡ []

@@ -66,8 +66,8 @@ abbrev pub NothingUsefulPresses : Type 0
 NothingUsefulPresses =
     (d : Deal) (v : ℕ) (w : Wallet) (signed : ℕ → Option Hashkey) (k : Histories) → useful d v w signed k ≡ [] → pressing d v w signed k ≡ []
 
--- where nothing is useful to v, ticks on arc a that don't bring its ledger above an expiry that v
--- waits for make nothing useful
+-- where nothing is useful to v, ticks of a ledger make nothing useful as long as they don't pass an
+-- expiry for which v waits
 abbrev pub TicksMakeNothingUseful : Type 0
 TicksMakeNothingUseful = (d : Deal) (v : ℕ) (w : Wallet) (signed : ℕ → Option Hashkey) (k : Histories) (a : ℕ) (more : List Entry)
     → are_ticks more ≡ true → useful d v w signed k ≡ [] → StaysLow d v k a more → useful d v w signed (set k a (history k a ++ more)) ≡ []

@@ -193,8 +193,9 @@ role_act c s v (Strategy name) = ask c s v name
 
 -- Crashes.
 
--- An act that is stopped within the disk call after k of them, of the four that record a hashkey,
--- has it recorded after the crash: its gate was written, and what isn't synced holds its new bytes.
+-- An act that is stopped within the disk call with the number k, counted from 0, of the four that
+-- record a hashkey, has it recorded after the crash: its gate was written, and what isn't synced
+-- holds its new bytes.
 abbrev pub is_recorded_after_crash : (k image : ℕ) → Bool
 is_recorded_after_crash k image = nat_le 2 k && (image == 1)
 

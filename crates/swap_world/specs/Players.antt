@@ -19,7 +19,7 @@ Actor = Player (JournalState DiskState)
 abbrev pub Racer : Type 0
 Racer = Player (Unit {0})
 
--- the same without a journal
+-- the player without its journal
 abbrev pub without_journal : {J : Type 0} → Player J → Racer
 without_journal (Conforming m j) = Conforming m tt
 without_journal (Planned n) = Planned n

@@ -21,7 +21,7 @@ pub record IsRaised (n : ℕ) (h after : List Entry) : Type 0 where
   pub is : after ≡ h ++ more
   pub high : height after ≤ height h + n
 
--- each history of a book is so raised
+-- each history of a book is longer by such ticks
 abbrev pub AreRaised : ℕ → (b after : Histories) → Type 0
 AreRaised n b after = (a : ℕ) → a < length b → IsRaised n (history b a) (history after a)
 

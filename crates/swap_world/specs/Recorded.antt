@@ -12,8 +12,8 @@ use Rattle.wallet_journal.specs.Held.{Held, Leaves, visible_bytes}
 use Rattle.wallet_journal.specs.Layout.{recorded}
 use Rattle.swap_run.specs.Run.{Cast, State, conforms, state_notes}
 
--- The disk of party v in a run: whatever a crash leaves of it, the hashkey of each unlock call that
--- v made, on whatever arc, is recorded for its lock, and just the hashkeys that v signed are.
+-- The disk of party v in a run. Whatever a crash leaves of it, exactly the hashkeys that v signed
+-- are recorded, and among them is the hashkey of each unlock call that v made.
 pub record IsPartyDisk (d : Deal) (s : State) (v : ℕ) (h : Held) : Type 0 where
   -- what a read gives is among what a crash may leave
   pub read : Leaves h (visible_bytes h)
@@ -21,10 +21,10 @@ pub record IsPartyDisk (d : Deal) (s : State) (v : ℕ) (h : Held) : Type 0 wher
       → (c : List ℕ) → Leaves h c → recorded c key.lock ≡ Some key
   pub just : (i : ℕ) → i < length d.leaders → (c : List ℕ) → Leaves h c → recorded c i ≡ signed_hashkey (state_notes s v).signed i
 
--- where party v conforms it has such a disk
+-- where party v conforms, it has a disk that has recorded its calls
 abbrev pub HasDisk : Cast → State → ℕ → Type 0
 HasDisk c s v = conforms c v ≡ true → (h : Held) × IsPartyDisk c.deal s v h
 
--- each conforming party has one
+-- each conforming party has a disk that has recorded its calls
 abbrev pub AreRecorded : Cast → State → Type 0
 AreRecorded c s = (v : ℕ) → v < c.deal.graph.n → HasDisk c s v

@@ -47,7 +47,7 @@ fn find_same_key<'a>(known: &'a Known, place: usize, key: &Hashkey) -> Option<&'
     }
 }
 
-/// A holder of the party's hashkey, which is held once where it is the one that was read last.
+/// Holds the party's hashkey. Where it is the one that was read last, it is held once.
 fn held_once(
     known: &mut Known,
     party: PartyId,

@@ -220,8 +220,8 @@ impl<D: Disk> Journal<D> {
         &self.signed
     }
 
-    /// The disk. Where no call answered that it failed, each crash leaves the journal of this deal
-    /// and party there, with the hashkeys that it shows.
+    /// The disk. Where no call answered that it failed, each crash leaves this deal's and party's
+    /// journal on the disk, with the hashkeys that it shows.
     pub fn disk(&self) -> &D
         ensures value { result.now ≡ self.now.disk }
         ensures shown { self.now.sound ≡ true → (i : ℕ) → i < length self.now.signed → recorded (D.seen self.now.disk) i ≡ listed_hashkey self.now.signed i }
