@@ -11,10 +11,10 @@ use Rattle.escrow_core.specs.Terms.{stated_terms}
 use Rattle.ledger_core.specs.declared.entry.Call.{Call}
 use Rattle.ledger_core.specs.declared.entry.Call.TheVariants.{Publish, Claim, Refund}
 use Rattle.ledger_core.specs.Book.{Histories, IsLegalBook}
-use Rattle.swap_rules.specs.Due.{Wallet, Action, due_arc_unlock, due_claims, due_key, due_refunds, is_due_claim, is_due_publish, is_due_refund}
+use Rattle.swap_rules.specs.Due.{Wallet, Action, due_arc_unlock, due_key, is_due_claim, is_due_publish, is_due_refund}
 use Rattle.swap_rules.specs.Due.{may_unlock, presented, when_due}
 use Rattle.swap_rules.specs.Walking.{is_withheld, pressing_unlocks}
-use Rattle.swap_rules.specs.Useful.{opens_in_time, useful, useful_publishes, useful_unlocks}
+use Rattle.swap_rules.specs.Useful.{opens_in_time, useful}
 use Rattle.swap_rules.proofs.Prefixes.{from_flat_map}
 use Rattle.answer_rules.specs.Stopped.{is_stopped_call, unlocks_unless_stopped, unstopped, useful_unless_stopped}
 use Rattle.answer_rules.specs.Laws.{AreGoodKeys, SignsItsLock}

@@ -7,7 +7,7 @@ ghost use Rattle.history_index.specs.Indexes.{all_entries, AreIndexes};
 ghost use Rattle.sent_keys.specs.Sent.{shown, party_unlocks};
 ghost use Rattle.swap_rules.specs.declared.finding.Rule.TheVariants.{Publish as ToPublish, Unlock as ToUnlock, Claim as ToClaim, Refund as ToRefund};
 ghost use Rattle.swap_rules.specs.Late.{reference_height};
-ghost use Rattle.answer_rules.specs.Heights.{asked_height, height_or, last_on_time};
+ghost use Rattle.answer_rules.specs.Heights.{asked_height, last_on_time};
 
 use due_calls::{least_expiry, ready_height};
 use hashkey_path::Hashkey;

@@ -10,7 +10,7 @@ ghost use Rattle.many_lines.specs.Whole.{AreBoundedChains, AreSwaps, HoldsEveryS
 ghost use Rattle.many_lines.specs.Below.{AreChainsBelow};
 ghost use Rattle.swap_offer.specs.Wallets.{prepared_wallets};
 
-use crate::fault::{bad, by_field};
+use crate::fault::bad;
 use crate::many_job::ManyJob;
 use crate::said::{collect_accounts, parse_chains, parse_finish};
 use crate::stage::{Stage, SwapLine};
@@ -23,7 +23,7 @@ use std::mem;
 use swap_base::{ByteText, Listed, NoMemory};
 use swap_job::{Finish, Purpose};
 use swap_offer::Prepared;
-use transcript_book::{Parts, word};
+use transcript_book::Parts;
 
 /// The most chains.
 const MOST_CHAINS: usize = 32;

@@ -5,14 +5,14 @@ ghost use Rattle.serde_json.specs.Data.{member, no_members, object, string};
 ghost use Rattle.serde_json.specs.View.{view, members_view};
 ghost use Rattle.swap_digraph.specs.Deal.{IsWellSized};
 ghost use Rattle.offer_text.specs.Words.{number_data, AreTexts, IsBelow};
-ghost use Rattle.offer_text.specs.HeaderLine.{arc_data, arc_json, arcs_data, leader_value, leaders_data};
+ghost use Rattle.offer_text.specs.HeaderLine.{arc_json, arcs_data, leader_value, leaders_data};
 
 use crate::fields::{put_first, put_number, put_text};
 use crate::words::{digest_value, party_label};
 use serde_json::{Map, Value};
 use std::alloc::Global;
 use swap_base::{ArcId, ByteText, LockId, NoMemory};
-use swap_digraph::{ArcEnds, Deal, Mode};
+use swap_digraph::{Deal, Mode};
 
 /// Puts an arc's origin and units before the others.
 fn put_origin(

@@ -6,7 +6,6 @@ ghost use Rattle.swap_digraph.specs.Deal.{IsWellSized};
 ghost use Rattle.swap_digraph.specs.Graph.{entering, is_listed, leaving};
 ghost use Rattle.refusals.specs.declared.reason.Reason.TheVariants.{BadLine};
 ghost use Rattle.party_wallet.specs.Value.{signed_hashkey};
-ghost use Rattle.party_lines.specs.Lines.{nameless};
 ghost use Rattle.party_answer.specs.NoteStates.{kept_state, AreGoodKeptKeys};
 ghost use Rattle.party_answer.specs.Kept.{is_keepable, may_be_kept, notes_kept, opens_arc, opens_first, with_note, with_notes};
 
@@ -17,7 +16,7 @@ use party_wallet::Signed;
 use refusals::{HeaderFault, Reason};
 use sent_keys::is_first_key;
 use std::alloc::Global;
-use swap_base::{ArcId, Fault, Listed, LockId, NoMemory, PartyId, Shared, TryCopy};
+use swap_base::{ArcId, Listed, LockId, NoMemory, PartyId, Shared, TryCopy};
 use swap_digraph::Deal;
 
 /// What a party kept and sent.

@@ -1,6 +1,6 @@
 //! The text that answers.
 
-ghost use Rattle.std.specs.Prelude.{◌≡◌, ◌<◌, ◌≤◌, ◌++◌, IfOk, OnOk, is_some, length};
+ghost use Rattle.std.specs.Prelude.{◌≡◌, ◌<◌, ◌≤◌, ◌++◌, OnOk, is_some, length};
 ghost use Rattle.std.specs.List.{flat_map, list_any};
 ghost use Rattle.swap_digraph.specs.Deal.{IsWellSized};
 ghost use Rattle.history_index.specs.Indexes.{all_entries, AreIndexes};

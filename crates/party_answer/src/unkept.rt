@@ -3,7 +3,7 @@
 ghost use Rattle.std.specs.Prelude.{◌≡◌, ◌≤◌, IfOk, OnOk, length, option_copied};
 ghost use Rattle.swap_rules.specs.Conduct.{is_first_key as is_first};
 ghost use Rattle.party_wallet.specs.Value.{signed_hashkey};
-ghost use Rattle.party_answer.specs.Unkept.{all_unkept, has_lock, stopped_locks, with_ledgers, with_unlock, with_unlocks};
+ghost use Rattle.party_answer.specs.Unkept.{all_unkept, has_lock, stopped_locks, with_unlock, with_unlocks};
 
 use hashkey_path::Hashkey;
 use party_wallet::Signed;

@@ -1,6 +1,6 @@
 //! What `deal` writes: a deal's header line of everybody's rows.
 
-ghost use Rattle.std.specs.Prelude.{◌≡◌, ◌<◌, IfOk, IfSome, length, slice_index_or, []};
+ghost use Rattle.std.specs.Prelude.{◌≡◌, ◌<◌, IfOk, IfSome, length, []};
 ghost use Rattle.swap_base.specs.Fault.{Gives};
 ghost use Rattle.party_rows.specs.Dealt.{IsDealtText};
 ghost use Rattle.party_rows.specs.Inside.{inside_dealing, IsDealing};

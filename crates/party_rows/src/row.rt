@@ -5,7 +5,6 @@ ghost use Rattle.std.specs.List.{range_with_len};
 ghost use Rattle.swap_base.specs.Fault.{Gives};
 ghost use Rattle.hash_signature.specs.Signature.{derive_public_key};
 ghost use Rattle.transcript_book.specs.Taking.{Takes};
-ghost use Rattle.transcript_lines.specs.Between.{separated_parts};
 ghost use Rattle.transcript_lines.specs.Reading.{lower_hex_digest, parse_each_word, parse_first_field, listed_field};
 ghost use Rattle.party_rows.specs.Row.{seeded_hashlock, hashlock_said, seeded_keys, name_said, seeded_row, parse_row, row_said};
 

@@ -5,7 +5,7 @@ ghost use Rattle.swap_base.specs.Fault.{Gives};
 ghost use Rattle.party_lines.specs.Lines.{or_bad_line};
 ghost use Rattle.party_rows.specs.Inside.{IsOffered};
 ghost use Rattle.party_rows.specs.Row.{parse_row as row_of_line};
-ghost use Rattle.party_rows.specs.Rows.{check_first, count_hashlocks, hashlocks_wanted, keys_wanted, right_hashlock, right_keys, find_row, parse_rows};
+ghost use Rattle.party_rows.specs.Rows.{check_first, count_hashlocks, hashlocks_wanted, keys_wanted, right_hashlock, right_keys, parse_rows};
 ghost use Rattle.party_rows.specs.Rows.{with_party_row, with_row, with_rows, AreDealRows};
 
 use crate::row::{NamedRow, Row, parse_row};

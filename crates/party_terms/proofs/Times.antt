@@ -6,22 +6,20 @@ use Rattle.std.proofs.lemmas.Option.{same_Some}
 use Rattle.swap_base.specs.Lists.{greatest, IsElement}
 use Rattle.swap_base.proofs.Lists.{and_both, and_parts, greatest-in, in_flat_map, list_any-in, some_fails_all}
 use Rattle.time_bounds.specs.Times as times
-use Rattle.swap_digraph.specs.declared.deal.Deal.{Deal}
 use Rattle.swap_digraph.specs.Deal.{locks}
 use Rattle.swap_digraph.specs.Graph.{is_listed, leaving}
 use Rattle.escrow_core.specs.Terms.{stated_terms}
 use Rattle.ledger_core.specs.declared.entry.Call.{Call}
 use Rattle.ledger_core.specs.declared.entry.Call.TheVariants.{Publish}
-use Rattle.ledger_core.specs.declared.entry.Entry.{Entry}
-use Rattle.ledger_core.specs.History.{height, is_open, triggered}
-use Rattle.ledger_core.specs.Book.{Histories, history}
-use Rattle.swap_rules.specs.Party.{expiry, has_expired, is_ready, leads_one, ready_height}
+use Rattle.ledger_core.specs.History.{height, is_open}
+use Rattle.ledger_core.specs.Book.{history}
+use Rattle.swap_rules.specs.Party.{expiry, is_ready, leads_one, ready_height}
 use Rattle.swap_rules.specs.Due.{Action, is_due_publish, when_due}
 use Rattle.swap_rules.specs.Late.{reference_height, when}
-use Rattle.swap_rules.specs.Useful.{opens_in_time, useful_publishes}
+use Rattle.swap_rules.specs.Useful.{opens_in_time}
 use Rattle.swap_rules.proofs.Prefixes.{from_flat_map}
 use Rattle.party_terms.specs.Laws.{FollowersPublishBelow, FollowersPublishUpTo, LeadersAreOnTime, RefundsAreOpen, RefundsOpenNoEarlier}
-use Rattle.party_terms.specs.Times.{publish_deadline, publish_height, refund_height}
+use Rattle.party_terms.specs.Times.{publish_height}
 
 pub leaders_are_on_time : LeadersAreOnTime
 unfolding reference_height

@@ -7,7 +7,7 @@ use Rattle.refusals.specs.declared.reason.Reason.TheVariants.{OverLimit}
 use Rattle.refusals.specs.declared.refusal.Refusal.{Refusal}
 use Rattle.transcript_lines.specs.declared.said.Misspelling.{Misspelling}
 use Rattle.transcript_lines.specs.Between.{separated_parts}
-use Rattle.transcript_lines.specs.Reading.{misspelt, parse_first_field, first_field, is_word, bounded_number}
+use Rattle.transcript_lines.specs.Reading.{misspelt, parse_first_field, is_word, bounded_number}
 use Rattle.party_lines.specs.Digests.{this_word}
 use Rattle.party_lines.specs.Lines.{nameless, following_line_number, or_bad_line}
 use Rattle.party_terms.specs.declared.context.ContextLine.{ContextLine}

@@ -1,10 +1,9 @@
 //! The lines of context.
 
-ghost use Rattle.std.specs.Prelude.{◌≡◌, ◌≤◌, ◌∷◌, MatchOption, length, true};
+ghost use Rattle.std.specs.Prelude.{◌≡◌, ◌≤◌, ◌∷◌, MatchOption, true};
 ghost use Rattle.std.specs.List.{list_all};
 ghost use Rattle.swap_base.specs.Fault.{Gives};
 ghost use Rattle.transcript_book.specs.Taking.{Takes};
-ghost use Rattle.transcript_lines.specs.Between.{separated_parts};
 ghost use Rattle.transcript_lines.specs.Reading.{parse_first_field};
 ghost use Rattle.party_lines.specs.Lines.{or_bad_line, TakesFirstLine};
 ghost use Rattle.party_terms.specs.Context.{parse_context_line, context_arc, nonempty_word, parse_context, is_context_line, is_plain_line, is_printable, check_room, with_context_line};

@@ -1,5 +1,5 @@
 -- What a turn asks for, and what it does.
-use Rattle.std.specs.Prelude.{◌≡◌, ℕ, ◌<◌, Bool, true, false, List, length, Option, Some, None}
+use Rattle.std.specs.Prelude.{◌≡◌, ℕ, ◌<◌, Bool, false, List, length, Option, Some, None}
 use Rattle.ledger_core.specs.Book.{history}
 use Rattle.swap_job.specs.Roles.{IsHeld, job_role}
 use Rattle.swap_job.specs.declared.job.Job.{Job}

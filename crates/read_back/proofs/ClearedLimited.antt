@@ -1,19 +1,17 @@
 -- The limits of a group's job are kept, and its seeds are those of its digits.
-use Rattle.std.proofs.Common.{◌≡◌, ◌^◌, ◌<◌, ◌≤◌, ℕ, nat_le, true, List, [], ◌∷◌, length, map, Some, Result, Ok, refl}
-use Rattle.std.proofs.Common.{◌∙◌, arith, le-leb}
+use Rattle.std.proofs.Common.{◌≡◌, ◌^◌, ◌<◌, ◌≤◌, ℕ, true, List, [], ◌∷◌, length, map, Some, Result, Ok, refl}
+use Rattle.std.proofs.Common.{◌∙◌, arith}
 use Rattle.std.specs.Prelude.{codes, zip}
 use Rattle.std.proofs.lemmas.List.{length-map}
 use Rattle.hex.specs.Hex.{decode_sized}
 use Rattle.hex.specs.declared.error.FromHexError.{FromHexError}
 use Rattle.swap_base.specs.Lists.{IsElement}
-use Rattle.swap_base.proofs.Lists.{and_both}
-use Rattle.swap_digraph.specs.Graph.{is_listed}
 use Rattle.swap_digraph.proofs.Paths.{in-is_listed}
 use Rattle.swap_digraph.specs.declared.deal.Version.TheVariants.{Two}
 use Rattle.swap_job.specs.declared.job.Purpose.TheVariants.{Make}
 use Rattle.swap_job.specs.declared.job.Role.TheVariants.{Conforming}
 use Rattle.offer_fields.specs.Lists.{collected_results}
-use Rattle.offer_fields.specs.Limits.{to_digest, ranged_number, check_range}
+use Rattle.offer_fields.specs.Limits.{to_digest}
 use Rattle.offer_moves.specs.declared.moves.Sizes.{Sizes}
 use Rattle.offer_header.specs.declared.limits.Acting.{Acting}
 use Rattle.offer_header.specs.declared.limits.ArcTerms.{ArcTerms}

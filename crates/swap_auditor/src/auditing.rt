@@ -13,7 +13,7 @@ ghost use Rattle.ledger_core.specs.WellFormed.{IsWellFormed};
 
 use crate::found::Found;
 use crate::replay::{AuditFault, replay};
-use ledger_core::{Book, EntryList, share_deal};
+use ledger_core::{Book, share_deal};
 use outcome_rules::{Report, build_report};
 use std::alloc::Global;
 use swap_base::{ArcId, Listed, Shared};

@@ -1,7 +1,6 @@
 -- The job that a number gives.
-use Rattle.std.proofs.Common.{◌≡◌, ℕ, ◌<◌, ◌≤◌, List, map, Option, Some, None, IsSome, slice_index_or, refl, sym, subst}
+use Rattle.std.proofs.Common.{◌≡◌, ℕ, ◌<◌, ◌≤◌, List, Option, Some, None, IsSome, slice_index_or, refl, sym, subst}
 use Rattle.std.proofs.Common.{arith}
-use Rattle.std.specs.List.{range_with_len}
 use Rattle.std.proofs.lemmas.List.FromFn.{get_or-map-range_with_len}
 use Rattle.swap_digraph.specs.Value.{Graph}
 use Rattle.swap_job.specs.Step.{IsJobEvent}

@@ -1,8 +1,8 @@
 -- What is made of seeds is what their parties own.
-use Rattle.std.proofs.Common.{◌≡◌, ℕ, ◌<◌, Bool, true, false, cond, not, ◌||◌, List, [], ◌∷◌, length, map, get_or, replicate}
+use Rattle.std.proofs.Common.{◌≡◌, ℕ, ◌<◌, Bool, true, false, cond, not, ◌||◌, List, [], ◌∷◌, length, get_or, replicate}
 use Rattle.std.proofs.Common.{Option, Some, None, unwrap_or, IsSome, slice_index_or, refl, sym, ap, ◌∙◌, inl, inr, subst, arith, eqb-true}
 use Rattle.std.specs.Str.{bytes_eq}
-use Rattle.std.specs.List.{find, range_with_len}
+use Rattle.std.specs.List.{find}
 use Rattle.std.proofs.lemmas.List.{get_or-map, get_or_default}
 use Rattle.std.proofs.lemmas.List.FromFn.{get_or-map-range_with_len}
 use Rattle.swap_base.specs.Lists.{IsElement}

@@ -1,6 +1,6 @@
 -- What is useful is due, what is left out can only hurt, and ticks make nothing useful.
-use Rattle.std.proofs.Common.{◌≡◌, ◌⊎◌, ℕ, suc, zero, ◌≤◌, ◌+◌, ◌==◌, nat_le, Bool, true, false, cond, not, ◌&&◌, ◌||◌, List, [], ◌∷◌, ◌++◌, map}
-use Rattle.std.proofs.Common.{set, Option, Some, None, is_some, is_none, refl, sym, ap, ap₂, ◌∙◌, subst, inl, inr, arith, leb-true, le-leb}
+use Rattle.std.proofs.Common.{◌≡◌, ◌⊎◌, ℕ, suc, zero, ◌≤◌, ◌+◌, ◌==◌, nat_le, Bool, true, false, cond, not, ◌&&◌, ◌||◌, List, [], ◌∷◌, ◌++◌}
+use Rattle.std.proofs.Common.{set, Option, Some, None, is_none, refl, sym, ap, ap₂, ◌∙◌, inl, inr, arith, leb-true, le-leb}
 use Rattle.std.specs.List.{list_any, list_all, flat_map}
 use Rattle.std.proofs.lemmas.Bool.{false≢true}
 use Rattle.swap_base.specs.Lists.{or_else, first_given_answer, IsElement}
@@ -19,7 +19,6 @@ use Rattle.swap_rules.specs.Party.{pick_call, unlock_hashkey, first_key}
 use Rattle.swap_rules.specs.Due.{Wallet, Action, unlocks_lock, has_called, is_due_publish, due_arc_unlock, when_due, due_publishes, due_unlocks}
 use Rattle.swap_rules.specs.Due.{due_claims, due_refunds, due}
 use Rattle.swap_rules.specs.Rest.{is_ticking, are_ticks, StaysLow}
-use Rattle.swap_rules.specs.Rounds.{IsNear}
 use Rattle.swap_rules.specs.Walking.{is_withheld, pressing_unlocks, pressing}
 use Rattle.swap_rules.specs.Useful.{opens_in_time, useful_publishes, useful_unlocks, useful, IsHarmful, PublishesLate, RevealsLate, UsefulIsDue}
 use Rattle.swap_rules.specs.Useful.{OnlyHarmIsLeftOut, EarlyIsUseful, NothingUsefulPresses, TicksMakeNothingUseful}

@@ -26,7 +26,7 @@ use Rattle.deviators.specs.View.{IsPartyAnswer, MayAnswer}
 use Rattle.swap_job.specs.declared.job.Role.{Role}
 use Rattle.swap_job.specs.declared.job.Role.TheVariants.{Conforming, Manual, Script, Strategy}
 use Rattle.deviators.proofs.Scripts.{may_resolve, next_may, left_fit}
-use Rattle.swap_rules.specs.Due.{Action, due, first}
+use Rattle.swap_rules.specs.Due.{Action, due}
 use Rattle.ledger_core.proofs.History.{not-true}
 use Rattle.swap_rules.proofs.Prefixes.{begins_refl, same_or_not}
 use Rattle.swap_rules.proofs.Machines.{knowledge_conducts, rules_transfer}

@@ -20,7 +20,7 @@ use Rattle.swap_rules.specs.Rest.{is_ticking}
 use Rattle.swap_rules.specs.Machine.{Begins}
 use Rattle.swap_rules.proofs.Growth.{published-more}
 use Rattle.swap_rules.proofs.Prefixes.{list_any-more, not_any-in}
-use Rattle.told_books.specs.WithoutNoise.{is_told, telling, is_useless, is_needed, needed_history, parts, needs, SaysTheSame, AreUseless, SayEnough}
+use Rattle.told_books.specs.WithoutNoise.{is_told, telling, is_useless, is_needed, parts, needs, SaysTheSame, AreUseless, SayEnough}
 use Rattle.told_books.specs.Laws.{NeededSaysEnough, UselessIsTicks}
 use Rattle.told_books.proofs.Filters.{filter-same, first-none, list_any-filter, sum_by-filter}
 use Rattle.told_books.proofs.Telling.{noise, no_ticks, no_call, says_telling}

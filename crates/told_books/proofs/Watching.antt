@@ -1,5 +1,5 @@
 -- Who was watchful in a book was so in what is told of it, and the other way round.
-use Rattle.std.proofs.Common.{◌≡◌, ℕ, ◌<◌, Bool, true, false, ◌||◌, List, [], ◌∷◌, length, filter, Option, Some, is_some, refl, sym, ap, ◌∙◌, subst}
+use Rattle.std.proofs.Common.{◌≡◌, ℕ, ◌<◌, Bool, true, false, ◌||◌, List, [], ◌∷◌, filter, Some, is_some, refl, sym, ap, ◌∙◌, subst}
 use Rattle.std.specs.List.{list_any}
 use Rattle.swap_base.specs.Lists.{IsElement, IsMoment}
 use Rattle.swap_base.proofs.Lists.{or-right}
@@ -15,7 +15,7 @@ use Rattle.swap_rules.specs.Late.{reference_height}
 use Rattle.swap_rules.specs.Party.{is_correct, is_triggered, pick_call}
 use Rattle.swap_rules.specs.Due.{is_claiming}
 use Rattle.swap_rules.specs.Rest.{is_ticking}
-use Rattle.swap_rules.specs.Walking.{UnlocksArc, ClaimsAll, UnlocksAll, AsksBack, AsksAllBack, HasLost, IsWatchful}
+use Rattle.swap_rules.specs.Walking.{UnlocksArc, ClaimsAll, AsksBack, IsWatchful}
 use Rattle.swap_rules.proofs.Words.{call_of_parts, or-left, or-first}
 use Rattle.told_books.specs.WithoutNoise.{is_of_contract, is_useless, is_needed}
 use Rattle.told_books.proofs.Filters.{any-same, moment-filter, moment_unfilter}

@@ -9,7 +9,7 @@ ghost use Rattle.told_ledgers.specs.Inside.{IsHeardLedgerForParty, IsLegalHeard,
 ghost use Rattle.told_ledgers.specs.SoFar.{LedgerSoFar};
 ghost use Rattle.told_ledgers.specs.declared.stage.Stage.TheVariants.{Reading};
 ghost use Rattle.told_ledgers.specs.Ledger.{untold};
-ghost use Rattle.told_ledgers.specs.Telling.{all_told, begun_at_heading, begun_ledger, frame_told, with_heard, ledger_told, line_told, nothing_told, one_less, passing, reading_ledger, told_book};
+ghost use Rattle.told_ledgers.specs.Telling.{all_told, begun_at_heading, frame_told, with_heard, ledger_told, line_told, nothing_told, one_less, passing, reading_ledger, told_book};
 
 use crate::heading::{Heading, heading_said};
 use crate::kind::{Kind, line_kind};

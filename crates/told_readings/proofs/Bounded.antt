@@ -1,6 +1,6 @@
 -- How long the lines of a ledger are.
-use Rattle.std.proofs.Common.{◌≡◌, ◌+◌, ◌*◌, ◌<◌, ◌≤◌, ◌^◌, ◌++◌, ℕ, zero, suc, Bool, true, false, cond, List, [], ◌∷◌, length, map, decimal, count_by}
-use Rattle.std.proofs.Common.{refl, sym, ap, ◌∙◌, arith, length-append}
+use Rattle.std.proofs.Common.{◌≡◌, ◌+◌, ◌*◌, ◌<◌, ◌≤◌, ◌^◌, ◌++◌, ℕ, suc, Bool, true, false, cond, List, [], ◌∷◌, length, map, decimal, count_by}
+use Rattle.std.proofs.Common.{refl, ap, ◌∙◌, arith, length-append}
 use Rattle.std.specs.Prelude.{All, codes}
 use Rattle.std.specs.List.{AllByRecursion}
 use Rattle.std.proofs.lemmas.Fmt.{length-decimal-le}
@@ -9,8 +9,6 @@ use Rattle.hex.proofs.HexLemmas.{length-encode_with}
 use Rattle.hex.specs.Hex.{encode_lower, lower_digits}
 use Rattle.swap_base.specs.Text.{joined}
 use Rattle.hash_signature.specs.declared.sig.Sig.{Sig}
-use Rattle.hashkey_path.specs.declared.hashkey.Hashkey.{Hashkey}
-use Rattle.escrow_core.specs.declared.terms.Terms.{Terms}
 use Rattle.escrow_core.specs.declared.reply.Reply.{Reply}
 use Rattle.escrow_core.specs.declared.reply.Reply.TheVariants.{Accepted, Settled, NotCounterparty, NotParty, AlreadyUnlocked, WrongSecret, WrongPath}
 use Rattle.escrow_core.specs.declared.reply.Reply.TheVariants.{WrongSignature, TooLate, StillLocked, NothingLocked, NotExpired, NoContract}
