@@ -1,14 +1,11 @@
 -- A legal book is replayed as it is stated.
-use Rattle.std.proofs.Common.{◌≡◌, ◌==◌, ◌+◌, ◌<◌, ℕ, suc, true, List, [], ◌∷◌, ◌++◌, length, Result, Ok, refl, sym, ap, ◌∙◌, subst, arith}
-use Rattle.std.proofs.Common.{append_assoc, append-nil, eq-eqb}
+use Rattle.std.proofs.Common.{◌≡◌, ◌==◌, ◌+◌, ◌<◌, ℕ, suc, List, [], ◌∷◌, ◌++◌, length, Result, Ok, refl, sym, ap, ◌∙◌, subst, arith}
+use Rattle.std.proofs.Common.{append_assoc, append-nil}
 use Rattle.std.specs.List.{AllByRecursion}
 use Rattle.swap_base.specs.Fault.{◌>>=◌, steps}
 use Rattle.swap_base.specs.Lists.{moments_after_past}
 use Rattle.swap_digraph.specs.declared.deal.Deal.{Deal}
 use Rattle.escrow_core.specs.declared.reply.Reply.{Reply}
-use Rattle.escrow_core.specs.declared.reply.Reply.TheVariants.{Accepted, Settled, NotCounterparty, NotParty, AlreadyUnlocked, WrongSecret, WrongPath}
-use Rattle.escrow_core.specs.declared.reply.Reply.TheVariants.{WrongSignature, TooLate, StillLocked, NothingLocked, NotExpired, NoContract}
-use Rattle.escrow_core.specs.declared.reply.Reply.TheVariants.{AlreadyPublished, NoFunds, SenderFull, ClockFull}
 use Rattle.ledger_core.specs.declared.entry.Sender.{Sender}
 use Rattle.ledger_core.specs.declared.entry.Sender.TheVariants.{Party, Clock}
 use Rattle.ledger_core.specs.declared.entry.What.{What}
@@ -18,30 +15,8 @@ use Rattle.ledger_core.specs.History.{IsLegal, IsLegalEntry, IsLegalMoment}
 use Rattle.ledger_core.specs.Book.{Histories, history, IsLegalBook}
 use Rattle.swap_auditor.specs.declared.replay.BadReply.{BadReply}
 use Rattle.swap_auditor.specs.Audit.{replay, replay_histories, replayed, with_entry}
-use Rattle.swap_auditor.specs.Replies.{same_reply}
+use Rattle.swap_auditor.proofs.Replies.{same_self}
 use Rattle.swap_auditor.proofs.Replays.{entry_stands}
-
-self_equal : (n : ℕ) → (n == n) ≡ true
-self_equal n = eq-eqb n n refl
-
-same_self : (r : Reply) → same_reply r r ≡ true
-same_self Accepted = refl
-same_self Settled = refl
-same_self NotCounterparty = refl
-same_self NotParty = refl
-same_self AlreadyUnlocked = refl
-same_self WrongSecret = refl
-same_self WrongPath = refl
-same_self WrongSignature = refl
-same_self (TooLate n) = self_equal n
-same_self (StillLocked n) = self_equal n
-same_self NothingLocked = refl
-same_self (NotExpired n) = self_equal n
-same_self NoContract = refl
-same_self AlreadyPublished = refl
-same_self (NoFunds n) = self_equal n
-same_self SenderFull = refl
-same_self ClockFull = refl
 
 legal_reply : (d : Deal) (a : ℕ) (past : List Entry) (s : Sender) (w : What) (at : ℕ) (reply : Reply) → IsLegalEntry d a past s w at reply
     → reply ≡ replayed d a past s w

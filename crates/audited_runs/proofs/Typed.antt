@@ -31,6 +31,7 @@ use Rattle.ledger_core.specs.History.{accounts, balance, fit, is_clock_full, is_
 use Rattle.ledger_core.specs.History.{IsLegalEntry}
 use Rattle.ledger_core.specs.History.{IsLegalMoment}
 use Rattle.ledger_core.specs.Book.{history}
+use Rattle.ledger_core.proofs.Contracts.{fitting}
 use Rattle.ledger_core.proofs.History.{lock-below, published_done}
 use Rattle.ledger_core.proofs.Scans.{bounded}
 use Rattle.typed_books.specs.Typed.{IsDigest, IsTerms, IsTypedCall, IsTypedReply, IsTypedSender, IsTypedWhat}
@@ -59,22 +60,8 @@ record AreLow (t : Terms) : Type 0 where
 
 low_terms : (d : Deal) (a : ℕ) (t : Terms) → IsTrue (fit d a (Publish t)) → AreLow t
 low_terms d a t f =
-    let k =
-    and_parts ((length t.locks == length d.leaders) && nat_le t.start 1000000 && nat_le t.delta 1000000 && nat_le t.bound 1000000
-    && nat_le t.timelock 1000000) (nat_le t.amount 1000000000000) f in
-    let k2 =
-    and_parts ((length t.locks == length d.leaders) && nat_le t.start 1000000 && nat_le t.delta 1000000 && nat_le t.bound 1000000)
-    (nat_le t.timelock 1000000) k.0 in
-    let k3 = and_parts ((length t.locks == length d.leaders) && nat_le t.start 1000000 && nat_le t.delta 1000000) (nat_le t.bound 1000000) k2.0 in
-    let k4 = and_parts ((length t.locks == length d.leaders) && nat_le t.start 1000000) (nat_le t.delta 1000000) k3.0 in
-    let k5 = and_parts (length t.locks == length d.leaders) (nat_le t.start 1000000) k4.0 in
-    record {
-      start = leb-true t.start 1000000 k5.1;
-      delta = leb-true t.delta 1000000 k4.1;
-      bound = leb-true t.bound 1000000 k3.1;
-      timelock = leb-true t.timelock 1000000 k2.1;
-      amount = leb-true t.amount 1000000000000 k.1;
-    }
+    let k = fitting d a t f in
+    record { start = k.start; delta = k.delta; bound = k.bound; timelock = k.timelock; amount = k.amount }
 
 typed_terms : (t : Terms) → AreLow t → All IsDigest t.locks → IsTerms t
 typed_terms t k digests =

@@ -70,7 +70,7 @@ is_some-map f None = refl
 is_some-map f (Some x) = refl
 
 -- the terms of a publish that fits
-fitting : (d : Deal) (a : ℕ) (t : Terms) → IsTrue (fit d a (Publish t)) → AreFitting d t
+pub fitting : (d : Deal) (a : ℕ) (t : Terms) → IsTrue (fit d a (Publish t)) → AreFitting d t
 fitting d a t f =
     let k =
     and_parts ((length t.locks == length d.leaders) && nat_le t.start 1000000 && nat_le t.delta 1000000 && nat_le t.bound 1000000

@@ -1,9 +1,7 @@
 -- What the lock keeps of a ledger: a line on its deal and its arc, which stay, and then each entry.
 use Rattle.std.specs.Prelude.{ℕ, ◌==◌, List, [], ◌∷◌, filter, if◌then◌else◌}
 use Rattle.swap_digraph.specs.declared.deal.Deal.{Deal}
-use Rattle.swap_digraph.specs.declared.deal.Mode.TheVariants.{Timelocks}
-use Rattle.swap_digraph.specs.declared.deal.Version.TheVariants.{One}
-use Rattle.swap_digraph.specs.Deal.{party, counterparty}
+use Rattle.swap_digraph.specs.Deal.{party, counterparty, no_deal}
 use Rattle.ledger_core.specs.declared.entry.Entry.{Entry}
 use Rattle.ledger_core.specs.declared.entry.Sender.{Sender}
 use Rattle.ledger_core.specs.declared.entry.Sender.TheVariants.{Party, Clock}
@@ -41,23 +39,6 @@ line_entries (Made k e ∷ ls) = e ∷ line_entries ls
 abbrev pub head_arc : List Line → ℕ
 head_arc (Head d a ∷ ls) = a
 head_arc _ = 0
-
-abbrev pub no_deal : Deal
-no_deal =
-    record {
-      version = One;
-      graph = record { n = 0; arcs = [] };
-      leaders = [];
-      start = 0;
-      delta = 0;
-      bound = 0;
-      mode = Timelocks;
-      amounts = [];
-      hashlocks = [];
-      keys = [];
-      timelocks = [];
-      id = [];
-    }
 
 abbrev pub head_deal : List Line → Deal
 head_deal (Head d a ∷ ls) = d

@@ -1,12 +1,11 @@
 -- The header of a made job can be written.
 use Rattle.std.proofs.Common.{◌≡◌, ◌==◌, ◌&&◌, ◌||◌, ℕ, zero, suc, ◌<◌, ◌≤◌, Bool, true, false, nat_lt, nat_le, List, [], length, get_or, All, slice_index}
-use Rattle.std.proofs.Common.{Some, codes, decimal, refl, sym, subst, arith, ltb-true, ltb-false, eqb-true}
+use Rattle.std.proofs.Common.{Some, codes, decimal, refl, sym, subst, arith, ltb-true, eqb-true}
 use Rattle.std.specs.List.{list_all}
 use Rattle.swap_base.proofs.Lists.{and_parts, in_place, list_all-in}
-use Rattle.std.proofs.Math.ListN.{get_or-eq_default}
 use Rattle.std.specs.Str.{IsAscii, IsUtf8}
 use Rattle.std.proofs.lemmas.Fmt.{IsAscii-decimal}
-use Rattle.std.proofs.lemmas.List.{get_or_default, length-replicate}
+use Rattle.std.proofs.lemmas.List.{length-replicate}
 use Rattle.std.proofs.lemmas.List.Elements.{All-from_get_or, All-replicate}
 use Rattle.std.proofs.lemmas.List.FromFn.{length-map-range_with_len, get_or-map-range_with_len}
 use Rattle.std.proofs.lemmas.Str.{IsUtf8-append, IsUtf8-from_ascii}
@@ -32,19 +31,11 @@ use Rattle.swap_gen.specs.Drawn.{generated, drawn_party_label, plain_deal, plain
 use Rattle.offer_text.specs.Words.{AreTexts}
 use Rattle.offer_text.specs.Moves.{AreBelow, BoundedNames}
 use Rattle.offer_text.specs.HeaderLine.{AreSayable, IsSayable, IsWritable}
+use Rattle.offer_text.proofs.LowTexts.{low_are_texts, low_is_ascii}
 use Rattle.made_jobs.specs.Making.{IsMade}
 
--- past the end of a text stands 0
-below : (bs : List ℕ) → ((i : ℕ) → i < length bs → slice_index bs i < 128) → IsAscii bs
-below bs each i = go (nat_lt i (length bs)) refl
-  where
-    go : (b : Bool) → nat_lt i (length bs) ≡ b → slice_index bs i < 128
-    go true e = each i (ltb-true i (length bs) e)
-    go false e = let z : slice_index bs i ≡ 0 = get_or-eq_default bs 0 (ltb-false i (length bs) e) in omega (arith, z)
-
 pub are_texts : (names : List (List ℕ)) → AreNames names → AreTexts names
-are_texts names k p d lt =
-    subst IsUtf8 (get_or_default names p [] d lt) (IsUtf8-from_ascii (get_or names p []) (below (get_or names p []) (k.name p lt).ascii))
+are_texts names k = low_are_texts names (λ p lt. (k.name p lt).ascii)
 
 -- The moves of a script that fit its deal name parties that are there.
 
@@ -116,7 +107,7 @@ is_made job m e k own = record {
 
 name_is_text : (i : ℕ) → i < 256 → IsUtf8 (drawn_party_label i)
 name_is_text i lt =
-    let first : IsUtf8 (codes "p") = IsUtf8-from_ascii (codes "p") (below (codes "p") (λ k l. p_is k l)) in
+    let first : IsUtf8 (codes "p") = IsUtf8-from_ascii (codes "p") (low_is_ascii (codes "p") (λ k l. p_is k l)) in
     IsUtf8-append (codes "p") (decimal i) first (IsUtf8-from_ascii (decimal i) (IsAscii-decimal i (omega arith)))
   where
     p_is : (k : ℕ) → k < 1 → slice_index (codes "p") k < 128

@@ -10,12 +10,12 @@ use Rattle.refusals.specs.declared.reason.Reason.TheVariants.{NoAccount}
 use Rattle.refusals.specs.declared.refusal.Refusal.{Refusal}
 use Rattle.refusals.specs.Refusal.{refusal}
 use Rattle.refusals.specs.Words.{party_name}
-use Rattle.swap_many.specs.Value.{blank_deal}
+use Rattle.swap_digraph.specs.Deal.{no_deal}
 use Rattle.swap_many.specs.declared.place.Place.{Place}
 use Rattle.many_lines.specs.declared.many_job.ManyJob.{ManyJob}
 
 abbrev pub no_job : Job
-no_job = record { purpose = Run; deal = blank_deal; names = []; roles = []; conforming = []; seeds = []; finish = Stop }
+no_job = record { purpose = Run; deal = no_deal; names = []; roles = []; conforming = []; seeds = []; finish = Stop }
 
 -- the job of swap s
 abbrev pub job_of_swap : List Job → ℕ → Job

@@ -1,4 +1,5 @@
 pub mod Values
+pub mod LowTexts
 pub mod Floats
 pub mod Headers
 pub mod Actors

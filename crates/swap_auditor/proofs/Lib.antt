@@ -1,3 +1,4 @@
 pub mod Signed
+pub mod Replies
 pub mod Replays
 pub mod OnlyAccepted

@@ -81,3 +81,21 @@ pub record IsWellSized (d : Deal) : Type 0 where
   pub keys : HasKeys d.mode d
   pub timelocks : length d.timelocks ≡ length d.graph.arcs
   pub timelock : (a : ℕ) → a < length d.graph.arcs → slice_index d.timelocks a ≤ 1000000
+
+-- a deal of nobody, where nothing else says which deal is meant
+abbrev pub no_deal : Deal
+no_deal =
+    record {
+      version = One;
+      graph = record { n = 0; arcs = [] };
+      leaders = [];
+      start = 0;
+      delta = 0;
+      bound = 0;
+      mode = Timelocks;
+      amounts = [];
+      hashlocks = [];
+      keys = [];
+      timelocks = [];
+      id = [];
+    }

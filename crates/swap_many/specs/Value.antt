@@ -1,8 +1,6 @@
 -- What callers see of many worlds, and what leads from one to the next.
 use Rattle.std.specs.Prelude.{◌≡◌, ℕ, ◌<◌, Bool, true, false, List, [], length, slice_index_or}
-use Rattle.swap_digraph.specs.declared.deal.Deal.{Deal}
-use Rattle.swap_digraph.specs.declared.deal.Mode.TheVariants.{Timelocks}
-use Rattle.swap_digraph.specs.declared.deal.Version.TheVariants.{One}
+use Rattle.swap_digraph.specs.Deal.{no_deal}
 use Rattle.swap_run.specs.Asked.{Answers}
 use Rattle.swap_world.specs.Value.{WorldState, world_cast, answering_cast, Continues}
 use Rattle.swap_world.specs.Gone.{MayGive, HasAsked}
@@ -31,25 +29,9 @@ pub record ManyState : Type 0 where
   -- memory ran out in an earlier step
   pub stopped : Bool
 
-abbrev pub blank_deal : Deal
-blank_deal = record {
-  version = One;
-  graph = record { n = 0; arcs = [] };
-  leaders = [];
-  start = 0;
-  delta = 0;
-  bound = 0;
-  mode = Timelocks;
-  amounts = [];
-  hashlocks = [];
-  keys = [];
-  timelocks = [];
-  id = [];
-}
-
 abbrev pub no_world : WorldState
 no_world = record {
-  deal = blank_deal;
+  deal = no_deal;
   conforming = [];
   seeds = [];
   roles = [];

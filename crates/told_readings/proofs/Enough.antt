@@ -232,15 +232,18 @@ module _ (d : Deal) (v : ℕ) (k : Histories) (lines : ℕ → List (List ℕ)) 
   abbrev told : List ToldLedger
   told = all_with d v lines (replicate (length d.graph.arcs) untold) 0 (length d.graph.arcs)
 
+  nothing_said : SaysTheSame v [] []
+  nothing_said = record {
+    height = refl;
+    published = refl;
+    opened = λ i. refl;
+    settled = refl;
+    calls = λ test n. refl;
+  }
+
   far_here : (a : ℕ) → touches d v a ≡ false → IsToldHere d v a (history k a) untold
   far_here a e = record {
-    enough = inl (subst (SaysTheSame v []) (sym (b.far a e)) (record {
-      height = refl;
-      published = refl;
-      opened = λ i. refl;
-      settled = refl;
-      calls = λ test n. refl;
-    }));
+    enough = inl (subst (SaysTheSame v []) (sym (b.far a e)) nothing_said);
     clean = λ n. refl;
   }
 
@@ -258,13 +261,7 @@ module _ (d : Deal) (v : ℕ) (k : Histories) (lines : ℕ → List (List ℕ)) 
   empty_here : (a : ℕ) → length d.graph.arcs ≤ a → IsToldHere d v a (history k a) untold
   empty_here a le =
       let none : history k a ≡ [] = get_or_past k a [] (let count = b.one_each in omega arith) in record {
-        enough = inl (subst (SaysTheSame v []) (sym none) (record {
-          height = refl;
-          published = refl;
-          opened = λ i. refl;
-          settled = refl;
-          calls = λ test n. refl;
-        }));
+        enough = inl (subst (SaysTheSame v []) (sym none) nothing_said);
         clean = λ n. refl;
       }
 

@@ -12,9 +12,6 @@ use Rattle.swap_base.proofs.Lists.{and_both, at_moment, first_given_answer-front
 use Rattle.swap_digraph.specs.declared.deal.Deal.{Deal}
 use Rattle.swap_digraph.specs.Deal.{counterparty, party}
 use Rattle.escrow_core.specs.declared.reply.Reply.{Reply}
-use Rattle.escrow_core.specs.declared.reply.Reply.TheVariants.{Accepted, Settled, NotCounterparty, NotParty, AlreadyUnlocked, WrongSecret, WrongPath}
-use Rattle.escrow_core.specs.declared.reply.Reply.TheVariants.{WrongSignature, TooLate, StillLocked, NothingLocked, NotExpired, NoContract}
-use Rattle.escrow_core.specs.declared.reply.Reply.TheVariants.{AlreadyPublished, NoFunds, SenderFull, ClockFull}
 use Rattle.escrow_core.specs.Terms.{same_terms, stated_terms}
 use Rattle.ledger_core.specs.declared.entry.Call.{Call}
 use Rattle.ledger_core.specs.declared.entry.Call.TheVariants.{Publish, Unlock, Claim, Refund, Transfer}
@@ -49,31 +46,13 @@ use Rattle.told_ledgers.specs.SoFar.{LedgerSoFar}
 use Rattle.told_ledgers.specs.Words.{line_kind}
 use Rattle.told_ledgers.specs.Ledger.{is_correct_publish, is_first_publish, is_passed, line_heard, kind_line_read, own_unlock, replied, stated_entry}
 use Rattle.told_ledgers.specs.Ledger.{with_stated}
+use Rattle.swap_auditor.proofs.Replies.{same_self}
 use Rattle.told_readings.specs.Apart.{all_heard, then_heard}
 use Rattle.told_readings.specs.Enough.{SayEntries, SaysEntry, call_kind, is_accepting, is_publish_call, is_transfer_call}
 use Rattle.told_readings.proofs.ByWords.{call_parts, other_kind, own_kind, tick_kind, tick_parts}
 use Rattle.told_readings.proofs.Useless.{accepted_or, is_published, published_more, refused_or}
 
 -- ---- its reply is the replayed one
-
-same_self : (r : Reply) → same_reply r r ≡ true
-same_self Accepted = refl
-same_self Settled = refl
-same_self NotCounterparty = refl
-same_self NotParty = refl
-same_self AlreadyUnlocked = refl
-same_self WrongSecret = refl
-same_self WrongPath = refl
-same_self WrongSignature = refl
-same_self (TooLate n) = eq-eqb n n refl
-same_self (StillLocked n) = eq-eqb n n refl
-same_self NothingLocked = refl
-same_self (NotExpired n) = eq-eqb n n refl
-same_self NoContract = refl
-same_self AlreadyPublished = refl
-same_self (NoFunds n) = eq-eqb n n refl
-same_self SenderFull = refl
-same_self ClockFull = refl
 
 replayed_is : (d : Deal) (a : ℕ) (past : List Entry) (s : Sender) (w : What) (at : ℕ) (r : Reply) → IsLegalEntry d a past s w at r → r ≡ replayed d a past s w
 replayed_is d a past (Party p) (Made c) at r l = l.reply
