@@ -34,7 +34,7 @@ use Rattle.swap_rules.proofs.Conducting.{below_of}
 
 -- Counts.
 
-count_top : {A : Type 0} (p : A → Bool) (xs : List A) → count_by p xs ≤ length xs
+pub count_top : {A : Type 0} (p : A → Bool) (xs : List A) → count_by p xs ≤ length xs
 count_top p [] = omega arith
 count_top p (x ∷ xs) =
     let e1 : count_by p (x ∷ xs) ≡ cond (p x) 1 0 + count_by p xs = sum_by-cons (λ z. cond (p z) 1 0) x xs in

@@ -1,14 +1,13 @@
 -- A party that restarts stays sound, whether its last signature was recorded or not. It knows each
 -- ledger that touches it to its end.
-use Rattle.std.proofs.Common.{◌≡◌, ◌⊎◌, ℕ, ◌<◌, ◌≤◌, Bool, true, false, cond, if◌then◌else◌, [], length, Option, Some, refl, sym, ap}
-use Rattle.std.proofs.Common.{◌∙◌, subst, inl, inr, arith, eq-eqb}
+use Rattle.std.proofs.Common.{◌≡◌, ◌⊎◌, ℕ, ◌<◌, ◌≤◌, Bool, true, false, if◌then◌else◌, [], length, Option, refl, sym, ap}
+use Rattle.std.proofs.Common.{◌∙◌, subst, inl, inr, arith}
 use Rattle.std.proofs.lemmas.Bool.{cases_lt}
 use Rattle.std.proofs.lemmas.List.FromFn.{get_or-map-range_with_len, length-map-range_with_len}
 use Rattle.std.proofs.Math.ListN.{get_or-eq_default}
 use Rattle.swap_base.specs.Lists.{IsElement}
 use Rattle.swap_digraph.specs.declared.deal.Deal.{Deal}
 use Rattle.hashkey_path.specs.declared.hashkey.Hashkey.{Hashkey}
-use Rattle.ledger_core.specs.declared.entry.Call.TheVariants.{Unlock}
 use Rattle.ledger_core.specs.History.{IsLegal}
 use Rattle.ledger_core.specs.Book.{Histories, history, IsLegalBook}
 use Rattle.swap_job.specs.Fitting.{is_near}
@@ -17,11 +16,11 @@ use Rattle.swap_rules.specs.Accepted.{IsAccepted}
 use Rattle.swap_rules.specs.Due.{Wallet, Action, due}
 use Rattle.swap_rules.specs.Machine.{IsWallet, IsSound, KeepsRules, Knows, noted}
 use Rattle.swap_rules.proofs.Prefixes.{begins_refl}
-use Rattle.swap_rules.proofs.Due.{IsDue, is_due}
+use Rattle.swap_rules.proofs.Due.{is_due}
 use Rattle.swap_rules.proofs.Conducting.{own_more, knows_all}
 use Rattle.swap_rules.proofs.Machines.{rules_transfer}
 use Rattle.swap_run.specs.Run.{Notes, signed_through_call, relearnt}
-use Rattle.swap_run.proofs.Noted.{Holds, due_now, signed_is, signed_length}
+use Rattle.swap_run.proofs.Noted.{Holds, due_now, low_lock, signed_is, signed_length}
 
 module _ (d : Deal) (v : ℕ) (known after : Histories) (signed : ℕ → Option Hashkey) (legal : IsLegalBook d after)
     (knows : (a : ℕ) → Knows v (history known a) (history after a)) (rules : KeepsRules d known signed v) where
@@ -123,13 +122,6 @@ module _ (d : Deal) (b : Histories) (n : Notes) (v : ℕ) (legal : IsLegalBook d
     knows = knows_book;
     far = far_after;
     sound =
-        subst (λ f. IsSound d (relearnt d v b) f v) (sym (signed_is n.signed x.call (low (due_now d b n v w x wallet fits i h))))
+        subst (λ f. IsSound d (relearnt d v b) f v) (sym (signed_is n.signed x.call (low_lock d b n v w x h (due_now d b n v w x wallet fits i h))))
         (signing_sound d v n.known (relearnt d v b) (signed_hashkey n.signed) after_legal knows_more h.sound.rules w x wallet fits i);
   }
-    where
-      low : IsDue d v w (signed_hashkey n.signed) n.known n.known x.arc x.call → (key : Hashkey) → x.call ≡ Unlock key → key.lock < length n.signed
-      low is key e =
-          let has : noted (signed_hashkey n.signed) x.call key.lock ≡ Some key =
-          ap (λ c. noted (signed_hashkey n.signed) c key.lock) e
-          ∙ ap (λ z. cond z (Some key) (signed_hashkey n.signed key.lock)) (eq-eqb key.lock key.lock refl) in
-          subst (λ m. key.lock < m) (sym h.places) (is.keys key.lock key has).below

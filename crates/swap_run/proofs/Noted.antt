@@ -149,6 +149,15 @@ pub due_now : (d : Deal) (b : Histories) (n : Notes) (v : ℕ) (w : Wallet) (x :
 due_now d b n v w x wallet accepted i h =
     is_due d v w (signed_hashkey n.signed) n.known n.known h.sound.legal h.sound.rules (λ a. knows_all v (history n.known a)) wallet accepted x i
 
+-- the lock of a due unlock is one of those for which hashkeys are kept
+pub low_lock : (d : Deal) (b : Histories) (n : Notes) (v : ℕ) (w : Wallet) (x : Action) → Holds d b n v
+    → IsDue d v w (signed_hashkey n.signed) n.known n.known x.arc x.call → (key : Hashkey) → x.call ≡ Unlock key → key.lock < length n.signed
+low_lock d b n v w x h is key e =
+    let has : noted (signed_hashkey n.signed) x.call key.lock ≡ Some key =
+    ap (λ c. noted (signed_hashkey n.signed) c key.lock) e
+    ∙ ap (λ z. cond z (Some key) (signed_hashkey n.signed key.lock)) (eq-eqb key.lock key.lock refl) in
+    subst (λ m. key.lock < m) (sym h.places) (is.keys key.lock key has).below
+
 pub hold_act : (d : Deal) (b : Histories) (n : Notes) (v : ℕ) (w : Wallet) (x : Action) → IsWallet d v w → IsAccepted d → IsLegalBook d b
     → IsElement x (due d v w (signed_hashkey n.signed) n.known) → Holds d b n v
     → Holds d (set b x.arc (after_call d x.arc v x.call (history b x.arc))) (record {
@@ -177,12 +186,5 @@ hold_act d b n v w x wallet accepted legal i h =
           (history_same b x.arc (after_call d x.arc v x.call (history b x.arc)) there)
           (λ z e. subst (Knows v (history n.known z)) (sym (history_other b x.arc z (after_call d x.arc v x.call (history b x.arc)) e)) (h.knows z));
       far = still_far d n v x.arc (after_call d x.arc v x.call (history b x.arc)) is.of_the_two h.far;
-      sound = subst (λ f. IsSound d (set n.known x.arc (after_call d x.arc v x.call (history b x.arc))) f v) (sym (signed_is n.signed x.call (low is))) two;
+      sound = subst (λ f. IsSound d (set n.known x.arc (after_call d x.arc v x.call (history b x.arc))) f v) (sym (signed_is n.signed x.call (low_lock d b n v w x h is))) two;
     }
-  where
-    low : IsDue d v w (signed_hashkey n.signed) n.known n.known x.arc x.call → (key : Hashkey) → x.call ≡ Unlock key → key.lock < length n.signed
-    low is key e =
-        let has : noted (signed_hashkey n.signed) x.call key.lock ≡ Some key =
-        ap (λ c. noted (signed_hashkey n.signed) c key.lock) e
-        ∙ ap (λ z. cond z (Some key) (signed_hashkey n.signed key.lock)) (eq-eqb key.lock key.lock refl) in
-        subst (λ m. key.lock < m) (sym h.places) (is.keys key.lock key has).below

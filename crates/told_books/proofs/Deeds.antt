@@ -3,7 +3,6 @@
 use Rattle.std.proofs.Common.{◌≡◌, ◌≢◌, ℕ, ◌+◌, ◌≤◌, ◌==◌, Bool, true, false, cond, ◌||◌, List, [], ◌∷◌, ◌++◌, length, count_by, drop}
 use Rattle.std.proofs.Common.{Option, Some, None, is_some, is_none, refl, sym, ap, ◌∙◌, subst, arith, eqb-true, eq-eqb, ltb-false}
 use Rattle.std.specs.Prelude.{IsTrue}
-use Rattle.std.proofs.lemmas.List.Sums.{sum_by-cons}
 use Rattle.swap_base.specs.Lists.{or_else, first_given_answer}
 use Rattle.swap_base.proofs.Lists.{first_given_answer-append, first_given_answer-now, or_else-stays, bit_le, count_le, count_less, in_range, length-range, grow, at_moment}
 use Rattle.swap_base.proofs.Lists.{all_moments_front}
@@ -27,6 +26,7 @@ use Rattle.ledger_core.specs.History.{is_sender}
 use Rattle.ledger_core.proofs.Bounds.{total_calls, calls-push}
 use Rattle.ledger_core.proofs.History.{clear, AreClear, not-true, not-false, lock-below}
 use Rattle.swap_rules.specs.Rest.{is_ticking}
+use Rattle.swap_rules.proofs.Room.{count_top}
 use Rattle.told_books.specs.WithoutNoise.{is_of_contract, is_told, telling, reply_without_limit, IsTrueEntry, IsTrueMoment, IsChain}
 use Rattle.told_books.specs.Laws.{OthersAreFew}
 use Rattle.told_books.proofs.Filters.{filter-on, filter-off}
@@ -163,14 +163,6 @@ module _ (d : Deal) where
   gains a h x s Claim k o g = settles h x Claimed (ap settling k) (of_claim d a h g.by g.clear).1
   gains a h x s Refund k o g = settles h x Refunded (ap settling k) (of_refund d a h g.by g.clear).1
   gains a h x s (Transfer to units) k o g = absurd (cc o)
-
-  count_top : (p : ℕ → Bool) (xs : List ℕ) → count_by p xs ≤ length xs
-  count_top p [] = omega arith
-  count_top p (x ∷ xs) =
-      let e1 : count_by p (x ∷ xs) ≡ cond (p x) 1 0 + count_by p xs = sum_by-cons (λ z. cond (p z) 1 0) x xs in
-      let e2 = bit_le (p x) true (λ q. refl) in
-      let e3 = count_top p xs in
-      omega arith
 
   pub all_progress : (h : List Entry) → progress d h ≤ length d.leaders + 2
   all_progress h =
