@@ -212,25 +212,6 @@ pub(crate) fn fresh_ticks(ledger: &Ledger, seen: u32) -> Option<Run>
     }
 }
 
-/// Lets a machine know a ledger up to its end, by a copy of the entries that it doesn't know.
-fn learn_copied<L: Counted>(
-    machine: &mut Machine,
-    ledger: &Ledger,
-    steps: &mut Steps<L>,
-) -> Result<(), NoMemory>
-    requires same { ledger.now.deal ≡ machine.old.deal }
-    requires legal { IsLegal ledger.now.deal ledger.now.arc ledger.now.history }
-    requires arc { ledger.now.arc < length ledger.now.deal.graph.arcs }
-    requires begins { Begins (history machine.old.known ledger.now.arc) ledger.now.history }
-    ensures ok { OnOk result (machine.new ≡ record machine.old { known = slice_set machine.old.known ledger.now.arc ledger.now.history }) }
-    ensures err { OnErr result (machine.new ≡ machine.old) }
-    ensures counted { OnOk result (steps.new + length (history machine.old.known ledger.now.arc) ≡ steps.old + length ledger.now.history) }
-{
-    let arc = ledger.arc();
-    let fresh = ledger.copy_tail(machine.known(arc).count() as usize)?;
-    machine.learn(arc, fresh, steps)
-}
-
 /// Lets a machine know a ledger up to its end. It takes a step for each entry that the machine
 /// doesn't know.
 fn learn_entries<L: Counted>(
@@ -247,12 +228,16 @@ fn learn_entries<L: Counted>(
     ensures counted { OnOk result (steps.new + length (history machine.old.known ledger.now.arc) ≡ steps.old + length ledger.now.history) }
 {
     let arc = ledger.arc();
-    match fresh_ticks(ledger, machine.known(arc).count()) {
+    let seen = machine.known(arc).count();
+    match fresh_ticks(ledger, seen) {
         Some(run) => {
             machine.learn_ticks(arc, run, steps);
             Ok(())
         }
-        None => learn_copied(machine, ledger, steps),
+        None => {
+            let fresh = ledger.copy_tail(seen as usize)?;
+            machine.learn(arc, fresh, steps)
+        }
     }
 }
 
