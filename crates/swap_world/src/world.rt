@@ -382,31 +382,6 @@ impl World {
         }
     }
 
-    /// Takes an event. After want of memory the world is stopped.
-    fn take<A: Strategies>(
-        &mut self,
-        strategies: &A,
-        event: &Event,
-        swept: &[bool],
-    ) -> Result<Told, NoMemory>
-        requires event { CanStep self.old.deal self.old.conforming self.old.seeds event.now }
-        requires goes_on { self.old.stopped ≡ false }
-        requires held { AreHeld (A.holds strategies.now) self.old.roles }
-        ensures ok { OnOk result (HasGone (A.gives strategies.now) (λ c s. apply_step (is_slot_swept swept.now) c s event.now) self.old self.new) }
-        ensures told { IfOk result (λ r. (g : Answers) → Continues self.new g
-            → r ≡ event_told (is_slot_swept swept.now) (answering_cast self.old g) self.old.state event.now) }
-        ensures err { OnErr result (self.new.stopped ≡ true) }
-        ensures cut { OnErr result (IsCutWithSweeps (A.gives strategies.now) (is_slot_swept swept.now) event.now self.old self.new) }
-    {
-        match self.happen(strategies, event, swept) {
-            Ok(told) => Ok(told),
-            Err(NoMemory) => {
-                self.stopped = true;
-                Err(NoMemory)
-            }
-        }
-    }
-
     /// Where this world takes its memory.
     pub(crate) fn allocator(&self) -> Global {
         *self.ledgers.allocator()
@@ -466,7 +441,13 @@ impl World {
         if self.stopped {
             return Err(NoMemory);
         }
-        self.take(strategies, event, swept)
+        match self.happen(strategies, event, swept) {
+            Ok(told) => Ok(told),
+            Err(NoMemory) => {
+                self.stopped = true;
+                Err(NoMemory)
+            }
+        }
     }
 
     /// Takes one event, where `strategies` answers for each party that follows a strategy. After
