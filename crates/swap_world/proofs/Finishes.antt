@@ -192,12 +192,15 @@ module _ (gives : MayGive) (old mid new : WorldState) (n : ℕ) (skips : (g : An
       ≡ repeat (n + 1) (round_unless_ended (answering_cast old g)) old.state
   are_rounds g = let e : suc n ≡ n + 1 = omega arith in sym (skips g).skips ∙ ap (λ k. repeat k (round_unless_ended (answering_cast old g)) old.state) e
 
-  more : suc n ≡ n + 1
-  more = omega arith
+  -- memory ran out within so many rounds, of at most `most`
+  within : (most : ℕ) → n ≤ most - 1 → 1 ≤ most → IsStopped gives (rounds_steps (suc n)) old new
+      → (m : ℕ) × (m ≤ most) × IsStopped gives (rounds_steps m) old new
+  within most few some k = (suc n, omega (arith, few, some), k)
 
-  pub advance_cut : IsStopped gives (pass_steps n) old new → IsStopped gives (rounds_steps (n + 1)) old new
-  advance_cut k =
-      subst (λ i. IsStopped gives (rounds_steps i) old new) more (record {
+  pub advance_cut : (most : ℕ) → n ≤ most - 1 → 1 ≤ most → IsStopped gives (pass_steps n) old new
+      → (m : ℕ) × (m ≤ most) × IsStopped gives (rounds_steps m) old new
+  advance_cut most few some k =
+      within most few some (record {
         stopped = k.stopped;
         cast = k.cast;
         asked = k.asked;
@@ -210,10 +213,10 @@ module _ (gives : MayGive) (old mid new : WorldState) (n : ℕ) (skips : (g : An
       gone_as gives (λ c s. round c (repeat n (ticks c) s)) (λ c s. repeat (n + 1) (round_unless_ended c) s) old new are_rounds
       (gone_then gives (λ c s. repeat n (ticks c) s) round old mid new a b)
 
-  pub advance_stops : HasGone gives (λ c s. repeat n (ticks c) s) old mid → IsStopped gives round_steps mid new
-      → IsStopped gives (rounds_steps (n + 1)) old new
-  advance_stops a k =
-      subst (λ i. IsStopped gives (rounds_steps i) old new) more (record {
+  pub advance_stops : (most : ℕ) → n ≤ most - 1 → 1 ≤ most → HasGone gives (λ c s. repeat n (ticks c) s) old mid → IsStopped gives round_steps mid new
+      → (m : ℕ) × (m ≤ most) × IsStopped gives (rounds_steps m) old new
+  advance_stops most few some a k =
+      within most few some (record {
         stopped = k.stopped;
         cast = k.cast ∙ cast_gone gives (λ c s. repeat n (ticks c) s) old mid a;
         asked = more_asked gives old mid new a.asked (deal_gone gives (λ c s. repeat n (ticks c) s) old mid a) k.asked;

@@ -3,9 +3,9 @@
 ghost use Rattle.std.specs.Prelude.{◌≡◌, ◌<◌, ◌≤◌, ◌+◌, ℕ, IfOk, OnOk, OnErr, length, replicate, true, false};
 ghost use Rattle.swap_digraph.specs.Deal.{IsWellSized};
 ghost use Rattle.swap_run.specs.Run.{conforms};
-ghost use Rattle.swap_run.specs.Fair.{acts, adjacent_arcs, finish, is_above_horizon, looks, most_acts, repeat, round, round_unless_ended};
+ghost use Rattle.swap_run.specs.Fair.{acts, adjacent_arcs, finish, is_above_horizon, looks, most_acts, repeat, round_unless_ended};
 ghost use Rattle.swap_run.specs.Fair.{the_horizon, tick_low, ticks, turn, turns};
-ghost use Rattle.swap_run.specs.Steps.{finish_steps, look_steps, low_step, pass_steps, round_steps, rounds_steps, tick_steps, turn_steps, turns_steps};
+ghost use Rattle.swap_run.specs.Steps.{finish_steps, look_steps, low_step, pass_steps, rounds_steps, tick_steps, turn_steps, turns_steps};
 ghost use Rattle.swap_world.specs.Value.{world_cast};
 ghost use Rattle.swap_world.specs.Gone.{HasGone};
 ghost use Rattle.swap_world.specs.Actors.{AreHeld};
@@ -154,23 +154,6 @@ fn is_above_horizon(world: &World) -> bool
     true
 }
 
-/// The turns of all parties. Then the ledgers tick.
-#[tactic(auto, unfolding(swap_run::specs::Fair::round))]
-fn round<A: Strategies>(
-    world: &mut World,
-    strategies: &A,
-    near: &[Listed<ArcId>],
-) -> Result<(), NoMemory>
-    requires near { near.now ≡ all_adjacent world.old.deal }
-    requires goes_on { world.old.stopped ≡ false }
-    requires held { AreHeld (A.holds strategies.now) world.old.roles }
-    ensures ok { OnOk result (HasGone (A.gives strategies.now) round world.old world.new) }
-    ensures err { OnErr result (IsStopped (A.gives strategies.now) round_steps world.old world.new) }
-{
-    turns(world, strategies, near)?;
-    ticks(world, strategies)
-}
-
 /// Ticks each ledger that isn't above the horizon by one height, `count` times.
 fn pass<A: Strategies>(world: &mut World, strategies: &A, count: u64) -> Result<(), NoMemory>
     requires held { AreHeld (A.holds strategies.now) world.old.roles }
@@ -184,7 +167,8 @@ fn pass<A: Strategies>(world: &mut World, strategies: &A, count: u64) -> Result<
 }
 
 /// At most `most` rounds, and answers their number. The rounds in which nobody makes a call come
-/// first, by their ticks alone. One round follows them.
+/// first, by their ticks alone. One round follows them: the turns of all parties, and then the
+/// ticks.
 fn advance<A: Strategies>(
     world: &mut World,
     strategies: &A,
@@ -203,7 +187,8 @@ fn advance<A: Strategies>(
 {
     let quiet = world.quiet_rounds(near, most - 1);
     pass(world, strategies, quiet)?;
-    round(world, strategies, near)?;
+    turns(world, strategies, near)?;
+    ticks(world, strategies)?;
     Ok(quiet + 1)
 }
 

@@ -46,13 +46,10 @@ pub rounds-preserved : goal.rounds-preserved
 rounds-preserved g c =
     let w = c.args.world.now in
     let i = c.rounds.invariant in
-    let n = c.in_ok-taken.taken in
-    let less = c.in_ok-taken.ensures.few in
-    let few = i.few in
     record {
-      few = omega (arith, few);
-      gone = goes_further (g.A.Strategies.gives c.args.strategies.now) w c.rounds.world c.advance.new.world (the_horizon w.deal + 1) c.rounds.left n i.few less
-          i.gone c.in_ok-taken.ensures.ok;
+      few = omega (arith, i.few);
+      gone = goes_further (g.A.Strategies.gives c.args.strategies.now) w c.rounds.world c.advance.new.world (the_horizon w.deal + 1) c.rounds.left
+          c.in_ok-taken.taken i.few c.in_ok-taken.ensures.few i.gone c.in_ok-taken.ensures.ok;
     }
 
 pub returns-then-is_above_horizon-clause-ok : goal.returns-then-is_above_horizon-clause-ok
