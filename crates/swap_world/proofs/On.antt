@@ -1,5 +1,5 @@
 -- A step where slots may be swept, in the words of a run's step, and what its party is told.
-use Rattle.std.proofs.Common.{◌≡◌, ℕ, Bool, true, false, cond, List, length, Option, Some, None, Result, Ok, Err, IfOk, refl, sym, ap, ◌∙◌, slice_set}
+use Rattle.std.proofs.Common.{◌≡◌, ◌<◌, ℕ, Bool, true, false, cond, List, length, get_or, Option, Some, None, Result, Ok, Err, IfOk, refl, sym, ap, ◌∙◌, slice_set}
 use Rattle.swap_digraph.specs.declared.deal.Deal.{Deal}
 use Rattle.ledger_core.specs.declared.entry.Call.{Call}
 use Rattle.ledger_core.specs.declared.entry.Entry.{Entry}
@@ -24,11 +24,12 @@ use Rattle.swap_run.specs.CalledLaws.{is_no_tick}
 use Rattle.swap_run.proofs.Calls.{calls_split}
 use Rattle.swap_run.proofs.Swept.{none_swept}
 use Rattle.party_machine.specs.Machine.{MachineState}
-use Rattle.swap_world.specs.Acting.{landed, build_told, party_told}
+use Rattle.swap_world.specs.Acting.{histories, landed, build_told, party_told}
 use Rattle.swap_world.specs.Inside.{IsArcLedger}
 use Rattle.swap_world.specs.On.{call_told, told_of_call, event_told}
 use Rattle.swap_world.specs.declared.call_outcome.Told.{Told}
 use Rattle.swap_world.proofs.Turns.{call_begins}
+use Rattle.swap_world.proofs.Ledgers.{history_at}
 
 -- What a call leaves.
 
@@ -51,15 +52,20 @@ pub landed_called : (w : Bool) (d : Deal) (a p : ℕ) (c : Call) (old new : Ledg
 landed_called w d a p c old new k e =
     e ∙ ap (λ (x : Deal). landed w x old.arc p c old.history) k.deal ∙ ap (λ (x : ℕ). landed w d x p c old.history) k.arc
 
--- what the party of a call is told
-pub told_called : (w : Bool) (d : Deal) (a p : ℕ) (c : Call) (old : LedgerState) (t : Told) → IsArcLedger d a old
-    → t ≡ call_told w old.deal old.arc p c old.history → t ≡ call_told w d a p c old.history
-told_called w d a p c old t k e =
-    e ∙ ap (λ (x : Deal). call_told w x old.arc p c old.history) k.deal ∙ ap (λ (x : ℕ). call_told w d x p c old.history) k.arc
-
 pub if_told : {A E : Type 0} {P Q : A → Type 0} (r : Result A E) → ((x : A) → P x → Q x) → IfOk r P → IfOk r Q
 if_told (Ok x) f h = f x h
 if_told (Err e) f h = tt
+
+-- what the party of a call on the ledger of arc a is told
+pub told_called : {E : Type 0} (r : Result Told E) (sw : ℕ → Bool) (d : Deal) (a p : ℕ) (c : Call) (o : Option (ℕ × Call)) (ls : List LedgerState)
+    (l : LedgerState) → o ≡ Some (a, c) → a < length ls → l ≡ get_or ls a l → IsArcLedger d a l
+    → IfOk r (λ t. t ≡ call_told (sw a) l.deal l.arc p c l.history) → IfOk r (λ t. t ≡ party_told sw d p o (histories ls))
+told_called r sw d a p c o ls l comes below is k told =
+    if_told r (λ t e.
+    e ∙ (ap (λ (x : Deal). call_told (sw a) x l.arc p c l.history) k.deal
+    ∙ (ap (λ (x : ℕ). call_told (sw a) d x p c l.history) k.arc
+    ∙ (ap (call_told (sw a) d a p c) (sym (history_at ls a l below is)) ∙ ap (λ (o : Option (ℕ × Call)). party_told sw d p o (histories ls)) (sym comes)))))
+    told
 
 -- Steps.
 

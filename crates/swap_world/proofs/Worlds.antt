@@ -33,7 +33,8 @@ use Rattle.swap_world.specs.Value.{WorldState, world_answers, world_cast, answer
 use Rattle.swap_world.specs.Gone.{MayGive, HasGone, IsCutAt}
 use Rattle.swap_world.specs.On.{IsCutWithSweeps}
 use Rattle.swap_world.specs.Stopped.{IsStopped}
-use Rattle.swap_world.specs.Inside.{IsPartyActor, ArePartyActors}
+use Rattle.swap_world.specs.Inside.{inside_questions, inside_run_state, inside_world, IsPartyActor, ArePartyActors}
+use Rattle.swap_world.specs.declared.world.World.TheInside.{Inside}
 use Rattle.swap_world.specs.Acting.{IsMakable, IsSameOwner, histories}
 use Rattle.wallet_journal.specs.Journal.{JournalState}
 use Rattle.wallet_journal.specs.Memory.{DiskState}
@@ -210,23 +211,21 @@ pub good_unless : {A E : Type 0} (r : Result A E) (stopped : Bool) (sw : ℕ →
 good_unless (Ok x) stopped sw cast old new e is goes_on ok ready can g = subst (IsGood cast) (sym ok) (steps_on_are_good sw cast old e ready can g)
 good_unless (Err x) stopped sw cast old new e is goes_on ok ready can g = absurd (false≢true (sym goes_on ∙ is))
 
+-- the world of these fields with another state, which goes on or stopped
+abbrev pub world_in : Inside → Bool → State → WorldState
+world_in i stopped st = world i.deal i.conforming i.seeds i.roles i.answers.items stopped st
+
 -- an act that didn't run out of memory leaves the world going on
-pub acted_on : {A E : Type 0} (r : Result A E) (d : Deal) (conforming : List Bool) (seeds : Seeds) (roles : List Role)
-    (answers : List (Option (ℕ × Call))) (before after : Bool) (old new : State)
-    → after ≡ is_err r → before ≡ false → OnOk r (new ≡ old)
-    → OnOk r (world d conforming seeds roles answers after new ≡ world d conforming seeds roles answers before old)
-acted_on (Ok x) d conforming seeds roles answers before after old new is goes_on ok =
-    ap₂ (λ (b : Bool) (st : State). world d conforming seeds roles answers b st) (is ∙ sym goes_on) ok
-acted_on (Err x) d conforming seeds roles answers before after old new is goes_on ok = tt
+pub acted_on : {A E : Type 0} (r : Result A E) (i : Inside) (stopped : Bool) (to new : State) → stopped ≡ is_err r → i.stopped ≡ false → OnOk r (new ≡ to)
+    → OnOk r (world_in i stopped new ≡ world_in i i.stopped to)
+acted_on (Ok x) i stopped to new is goes_on ok = ap₂ (λ (b : Bool) (st : State). world_in i b st) (is ∙ sym goes_on) ok
+acted_on (Err x) i stopped to new is goes_on ok = tt
 
 -- an act that ran out of memory leaves a world that is cut
-pub cut_at : {A E : Type 0} (r : Result A E) (d : Deal) (conforming : List Bool) (seeds : Seeds) (roles : List Role)
-    (answers : List (Option (ℕ × Call))) (before after : Bool) (old to new : State)
-    → after ≡ is_err r → new.asked ≡ old.asked → OnErr r ((new.book ≡ old.book) ⊎ (new.book ≡ to.book))
-    → OnErr r (IsCutAt to (world d conforming seeds roles answers before old) (world d conforming seeds roles answers after new))
-cut_at (Ok x) d conforming seeds roles answers before after old to new is asked book = tt
-cut_at (Err x) d conforming seeds roles answers before after old to new is asked book =
-    record { stopped = is; cast = refl; asked = asked; answers = refl; book = book }
+pub cut_at : {A E : Type 0} (r : Result A E) (i : Inside) (stopped : Bool) (to new : State) → stopped ≡ is_err r → new.asked ≡ inside_questions i
+    → OnErr r ((new.book ≡ (inside_run_state i).book) ⊎ (new.book ≡ to.book)) → OnErr r (IsCutAt to (inside_world i) (world_in i stopped new))
+cut_at (Ok x) i stopped to new is asked book = tt
+cut_at (Err x) i stopped to new is asked book = record { stopped = is; cast = refl; asked = asked; answers = refl; book = book }
 
 -- What is known of a party that follows a script or a strategy.
 module _ (d : Deal) (conforming : List Bool) (seeds : List (Option (List ℕ))) (roles : List Role) (qs : List Question) (ls : List LedgerState) (xs : List Actor)

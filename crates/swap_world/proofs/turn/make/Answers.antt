@@ -5,13 +5,13 @@ use Rattle.ledger_core.specs.History.{fit}
 use Rattle.swap_job.specs.Resolved.{resolved}
 use Rattle.deviators.specs.View.{IsPartyAnswer}
 use Rattle.deviators.proofs.Scripts.{may_resolve}
-use Rattle.swap_world.specs.Acting.{histories, landed, taken, party_told}
+use Rattle.swap_world.specs.Acting.{histories, landed, taken}
 use Rattle.swap_world.specs.Inside.{IsArcLedger}
-use Rattle.swap_world.specs.On.{is_slot_swept, call_told}
-use Rattle.swap_world.proofs.Ledgers.{legal_book, history_at, book_ok}
+use Rattle.swap_world.specs.On.{is_slot_swept}
+use Rattle.swap_world.proofs.Ledgers.{legal_book, book_ok}
 use Rattle.swap_world.proofs.Rooms.{room_on}
 use Rattle.swap_world.proofs.Ways.{if_ok, if_err}
-use Rattle.swap_world.proofs.On.{landed_called, told_called, if_told}
+use Rattle.swap_world.proofs.On.{landed_called, told_called}
 use Rattle.swap_world.proofs.turn.make.Goals as goal
 use Rattle.swap_world.proofs.turn.make.Goals.{After-index_mut, After-call}
 
@@ -80,12 +80,6 @@ returns-in-Some-clause-err c =
 pub returns-in-Some-clause-told : goal.returns-in-Some-clause-told
 returns-in-Some-clause-told c =
     let o = (goal.at.returns-in-Some-clause-told c).After-index_mut in
-    let d = c.args.deal.now in
-    let ls = c.args.ledgers.now.items in
-    let l = c.index_mut.result.now in
-    let w = is_slot_swept c.args.swept.now c.in-Some.arc in
-    if_told c.call.result (λ t e.
-    told_called w d c.in-Some.arc c.args.made.now.sender c.in-Some.due l t (its o) e
-    ∙ (ap (call_told w d c.in-Some.arc c.args.made.now.sender c.in-Some.due) (sym (history_at ls c.in-Some.arc l (below o) c.index_mut.ensures.value))
-    ∙ ap (λ (o : Option (ℕ × Call)). party_told (is_slot_swept c.args.swept.now) d c.args.made.now.sender o (histories ls)) (sym (comes o))))
-    (rw c.is_swept-is.ensures at c.call.ensures.told)
+    told_called c.call.result (is_slot_swept c.args.swept.now) c.args.deal.now c.in-Some.arc c.args.made.now.sender c.in-Some.due
+    (resolved c.args.deal.now c.args.seeds.now (histories c.args.ledgers.now.items) c.args.made.now.mv.now) c.args.ledgers.now.items c.index_mut.result.now
+    (comes o) (below o) c.index_mut.ensures.value (its o) (rw c.is_swept-is.ensures at c.call.ensures.told)

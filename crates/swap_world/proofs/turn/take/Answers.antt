@@ -7,12 +7,12 @@ use Rattle.ledger_core.specs.History.{IsLegal, fit}
 use Rattle.swap_rules.specs.Machine.{Begins}
 use Rattle.deviators.specs.View.{IsPartyAnswer}
 use Rattle.swap_run.specs.Run.{plan_with_ledger}
-use Rattle.swap_world.specs.Acting.{histories, landed, taken, seen, party_told}
+use Rattle.swap_world.specs.Acting.{histories, landed, taken, seen}
 use Rattle.swap_world.specs.Inside.{IsArcLedger}
-use Rattle.swap_world.specs.On.{is_slot_swept, call_told}
+use Rattle.swap_world.specs.On.{is_slot_swept}
 use Rattle.swap_world.proofs.Ledgers.{on_ok, history_at, book_ok}
 use Rattle.swap_world.proofs.Rooms.{room_on}
-use Rattle.swap_world.proofs.On.{landed_called, told_called, if_told}
+use Rattle.swap_world.proofs.On.{landed_called, told_called}
 use Rattle.swap_world.proofs.turn.take.Goals as goal
 use Rattle.swap_world.proofs.turn.take.Goals.{After-index_mut}
 
@@ -94,14 +94,8 @@ returns-in-Some-clause-knows c =
 pub returns-in-Some-clause-told : goal.returns-in-Some-clause-told
 returns-in-Some-clause-told c =
     let o = (goal.at.returns-in-Some-clause-told c).After-index_mut in
-    let d = c.args.deal.now in
-    let ls = c.args.ledgers.now.items in
-    let l = c.index_mut.result.now in
-    let w = is_slot_swept c.args.swept.now c.in-Some.arc in
-    if_told c.make_planned.result (λ t e.
-    told_called w d c.in-Some.arc c.args.sender c.in-Some.due l t (its o) e
-    ∙ (ap (call_told w d c.in-Some.arc c.args.sender c.in-Some.due) (sym (history_at ls c.in-Some.arc l (below o) c.index_mut.ensures.value))
-    ∙ ap (λ (o : Option (ℕ × Call)). party_told (is_slot_swept c.args.swept.now) d c.args.sender o (histories ls)) (sym c.in-Some.is)))
+    told_called c.make_planned.result (is_slot_swept c.args.swept.now) c.args.deal.now c.in-Some.arc c.args.sender c.in-Some.due c.args.made
+    c.args.ledgers.now.items c.index_mut.result.now c.in-Some.is (below o) c.index_mut.ensures.value (its o)
     (rw c.is_swept-is.ensures at c.make_planned.ensures.told)
 
 pub make_planned-requires-clause-room : goal.make_planned-requires-clause-room

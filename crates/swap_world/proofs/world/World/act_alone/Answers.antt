@@ -144,10 +144,8 @@ invariant_of-self-2 c =
 pub returns-clause-ok : goal.returns-clause-ok
 returns-clause-ok c =
     let o = (goal.at.returns-clause-ok c).After-is_err-self-inside in
-    let i = c.self.inside in
     rw (← c.self.view_is)
-    (acted_on c.act-done.result i.deal i.conforming i.seeds i.roles i.answers.items i.stopped c.is_err-self-inside.result _ _
-    c.is_err-self-inside.ensures.value (goes_on o) (done o))
+    (acted_on c.act-done.result c.self.inside c.is_err-self-inside.result _ _ c.is_err-self-inside.ensures.value (goes_on o) (done o))
 
 pub returns-clause-told : goal.returns-clause-told
 returns-clause-told c =
@@ -161,7 +159,5 @@ returns-clause-told c =
 pub returns-clause-cut : goal.returns-clause-cut
 returns-clause-cut c =
     let o = (goal.at.returns-clause-cut c).After-is_err-self-inside in
-    let i = c.self.inside in
     rw (← c.self.view_is)
-    (cut_at c.act-done.result i.deal i.conforming i.seeds i.roles i.answers.items i.stopped c.is_err-self-inside.result (inside_run_state i) _ (after o)
-    c.is_err-self-inside.ensures.value refl (cut o))
+    (cut_at c.act-done.result c.self.inside c.is_err-self-inside.result _ (after o) c.is_err-self-inside.ensures.value refl (cut o))

@@ -114,15 +114,11 @@ invariant_of-self-2 c =
 pub returns-clause-ok : goal.returns-clause-ok
 returns-clause-ok c =
     let o = (goal.at.returns-clause-ok c).After-is_err-self-inside in
-    let i = c.self.inside in
     rw (← c.self.view_is)
-    (acted_on c.crash-done.result i.deal i.conforming i.seeds i.roles i.answers.items i.stopped c.is_err-self-inside.result _ _
-    c.is_err-self-inside.ensures.value (goes_on o) (done o))
+    (acted_on c.crash-done.result c.self.inside c.is_err-self-inside.result _ _ c.is_err-self-inside.ensures.value (goes_on o) (done o))
 
 pub returns-clause-cut : goal.returns-clause-cut
 returns-clause-cut c =
     let o = (goal.at.returns-clause-cut c).After-is_err-self-inside in
-    let i = c.self.inside in
     rw (← c.self.view_is)
-    (cut_at c.crash-done.result i.deal i.conforming i.seeds i.roles i.answers.items i.stopped c.is_err-self-inside.result (inside_run_state i) _ (after o)
-    c.is_err-self-inside.ensures.value refl (on_err c.crash-done.result (λ x. inl refl) c.crash-done.ensures.between))
+    (cut_at c.crash-done.result c.self.inside c.is_err-self-inside.result _ (after o) c.is_err-self-inside.ensures.value refl (on_err c.crash-done.result (λ x. inl refl) c.crash-done.ensures.between))
