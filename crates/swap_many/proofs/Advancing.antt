@@ -23,11 +23,16 @@ module _ (gives : MayGive) (old mid new : ManyState) (n : ℕ) (ready : AreReady
   passes_lead : LeadOn old (λ m z. repeat n (kept_ticks m) z)
   passes_lead = leads_repeat old ready kept_ticks (ticks_lead old ready) n
 
-  pub advance_cut : IsManyStopped gives (λ m z. repeat n (kept_ticks m) z) old new
-      → IsManyStopped gives (λ m z. repeat (n + 1) (kept_round_or_rest m) z) old new
-  advance_cut k =
-      stopped_as gives (λ m z. kept_round m (repeat n (kept_ticks m) z)) (λ m z. repeat (n + 1) (kept_round_or_rest m) z) old new are_rounds
-      (stopped_then gives (λ m z. repeat n (kept_ticks m) z) kept_round old new ready round_leads k)
+  -- memory ran out within so many rounds, of at most `most`
+  within : (most : ℕ) → n ≤ most - 1 → 1 ≤ most → IsManyStopped gives (λ m z. repeat (n + 1) (kept_round_or_rest m) z) old new
+      → (k : ℕ) × (k ≤ most) × IsManyStopped gives (λ m z. repeat k (kept_round_or_rest m) z) old new
+  within most few some k = (n + 1, omega (arith, few, some), k)
+
+  pub advance_cut : (most : ℕ) → n ≤ most - 1 → 1 ≤ most → IsManyStopped gives (λ m z. repeat n (kept_ticks m) z) old new
+      → (k : ℕ) × (k ≤ most) × IsManyStopped gives (λ m z. repeat k (kept_round_or_rest m) z) old new
+  advance_cut most few some k =
+      within most few some (stopped_as gives (λ m z. kept_round m (repeat n (kept_ticks m) z)) (λ m z. repeat (n + 1) (kept_round_or_rest m) z) old new are_rounds
+      (stopped_then gives (λ m z. repeat n (kept_ticks m) z) kept_round old new ready round_leads k))
 
   pub advance_ends : HasManyGone gives (λ m z. repeat n (kept_ticks m) z) old mid → HasManyGone gives kept_round mid new
       → HasManyGone gives (λ m z. repeat (n + 1) (kept_round_or_rest m) z) old new
@@ -35,11 +40,11 @@ module _ (gives : MayGive) (old mid new : ManyState) (n : ℕ) (ready : AreReady
       gone_as gives (λ m z. kept_round m (repeat n (kept_ticks m) z)) (λ m z. repeat (n + 1) (kept_round_or_rest m) z) old new are_rounds
       (gone_then gives (λ m z. repeat n (kept_ticks m) z) kept_round old mid new a b)
 
-  pub advance_stops : HasManyGone gives (λ m z. repeat n (kept_ticks m) z) old mid → IsManyStopped gives kept_round mid new
-      → IsManyStopped gives (λ m z. repeat (n + 1) (kept_round_or_rest m) z) old new
-  advance_stops a k =
-      stopped_as gives (λ m z. kept_round m (repeat n (kept_ticks m) z)) (λ m z. repeat (n + 1) (kept_round_or_rest m) z) old new are_rounds
-      (stopped_after gives (λ m z. repeat n (kept_ticks m) z) kept_round old mid new ready passes_lead a k)
+  pub advance_stops : (most : ℕ) → n ≤ most - 1 → 1 ≤ most → HasManyGone gives (λ m z. repeat n (kept_ticks m) z) old mid
+      → IsManyStopped gives kept_round mid new → (k : ℕ) × (k ≤ most) × IsManyStopped gives (λ m z. repeat k (kept_round_or_rest m) z) old new
+  advance_stops most few some a k =
+      within most few some (stopped_as gives (λ m z. kept_round m (repeat n (kept_ticks m) z)) (λ m z. repeat (n + 1) (kept_round_or_rest m) z) old new are_rounds
+      (stopped_after gives (λ m z. repeat n (kept_ticks m) z) kept_round old mid new ready passes_lead a k))
 
 -- Of all rounds some are left, and n of these are taken.
 module _ (gives : MayGive) (old mid new : ManyState) (all left n : ℕ) (few : left ≤ all) (less : n ≤ left)

@@ -229,6 +229,26 @@ module _ (gives : MayGive) (w mid new : ManyState) (s p : ℕ) (ready : AreReady
         stopped_as gives (λ m z. kept_act s p m (kept_looks s p m z)) (λ m z. kept_turn s m z p) w new (rest_is false e)
         (stopped_after gives (kept_looks s p) (kept_act s p) w mid new ready (looks_lead w ready s p k) looked h)
 
+-- A round: every swap's turns, and then the ticks.
+
+abbrev pub all_turns : Setup → Kept → Kept
+all_turns m z = fold (kept_turns m) z (range_with_len 0 m.swaps)
+
+pub round_cut : (gives : MayGive) (old new : ManyState) → AreReady old → IsManyStopped gives all_turns old new → IsManyStopped gives kept_round old new
+round_cut gives old new ready k =
+    stopped_as gives (λ m z. kept_ticks m (all_turns m z)) kept_round old new (λ a. refl)
+    (stopped_then gives all_turns kept_ticks old new ready (ticks_lead old ready) k)
+
+module _ (gives : MayGive) (old mid new : ManyState) (turned : HasManyGone gives all_turns old mid) where
+  pub round_ends : HasManyGone gives kept_ticks mid new → HasManyGone gives kept_round old new
+  round_ends k =
+      gone_as gives (λ m z. kept_ticks m (all_turns m z)) kept_round old new (λ a. refl) (gone_then gives all_turns kept_ticks old mid new turned k)
+
+  pub round_stops : AreReady old → IsManyStopped gives kept_ticks mid new → IsManyStopped gives kept_round old new
+  round_stops ready k =
+      stopped_as gives (λ m z. kept_ticks m (all_turns m z)) kept_round old new (λ a. refl)
+      (stopped_after gives all_turns kept_ticks old mid new ready (all_turns_lead old ready) turned k)
+
 pub rounds_lead : (w : ManyState) → AreReady w → LeadOn w kept_rounds
 rounds_lead w ready = leads_repeat w ready kept_round_or_rest (unless_leads w ready) (last_horizon (world_setup w) + 1)
 

@@ -5,7 +5,7 @@ ghost use Rattle.std.specs.List.{range_with_len};
 ghost use Rattle.swap_run.specs.Fair.{adjacent_arcs, repeat};
 ghost use Rattle.swap_run.specs.Run.{conforms};
 ghost use Rattle.swap_world.specs.Value.{world_cast};
-ghost use Rattle.swap_many.specs.Fair.{kept_acts, kept_looks, kept_round, kept_round_or_rest, kept_rounds, kept_sweeps, kept_ticks, kept_turn, kept_turns};
+ghost use Rattle.swap_many.specs.Fair.{kept_acts, kept_looks, kept_round_or_rest, kept_rounds, kept_sweeps, kept_ticks, kept_turn, kept_turns};
 ghost use Rattle.swap_many.specs.Fair.{have_ended, kept_swap_sweeps};
 ghost use Rattle.swap_many.specs.Kept.{kept_finish};
 ghost use Rattle.swap_many.specs.Many.{last_horizon};
@@ -132,21 +132,6 @@ fn ticks<A: Strategies>(worlds: &mut Worlds, strategies: &A) -> Result<(), NoMem
     Ok(())
 }
 
-/// Every swap's turns, and then the chains tick.
-fn round<A: Strategies>(
-    worlds: &mut Worlds,
-    strategies: &A,
-    near: &[Listed<Listed<ArcId>>],
-) -> Result<(), NoMemory>
-    requires near { AreAdjacentArcs near.now worlds.old.worlds }
-    requires on { CanContinue (A.holds strategies.now) worlds.old }
-    ensures ok { OnOk result (HasManyGone (A.gives strategies.now) kept_round worlds.old worlds.new) }
-    ensures err { OnErr result (IsManyStopped (A.gives strategies.now) kept_round worlds.old worlds.new) }
-{
-    all_turns(worlds, strategies, near)?;
-    ticks(worlds, strategies)
-}
-
 /// Whether each chain is above that height.
 fn have_ended(worlds: &Worlds, horizon: u64) -> bool
     requires { horizon ≡ last_horizon (world_setup worlds.now) }
@@ -173,7 +158,8 @@ fn pass<A: Strategies>(worlds: &mut Worlds, strategies: &A, count: u64) -> Resul
 }
 
 /// Some rounds, at most `most`. First come the rounds in which nobody makes a call, and only their
-/// ticks are taken. Then comes one more. It answers the number of rounds.
+/// ticks are taken. Then comes one more: every swap's turns, and then the ticks. It answers the
+/// number of rounds.
 fn advance<A: Strategies>(
     worlds: &mut Worlds,
     strategies: &A,
@@ -194,7 +180,8 @@ fn advance<A: Strategies>(
 {
     let quiet = worlds.quiet_rounds(near, horizon, most - 1);
     pass(worlds, strategies, quiet)?;
-    round(worlds, strategies, near)?;
+    all_turns(worlds, strategies, near)?;
+    ticks(worlds, strategies)?;
     Ok(quiet + 1)
 }
 

@@ -53,13 +53,10 @@ pub rounds-preserved : goal.rounds-preserved
 rounds-preserved g c =
     let w = c.args.worlds.now in
     let i = c.rounds.invariant in
-    let n = c.in_ok-taken.taken in
-    let less = c.in_ok-taken.ensures.few in
-    let few = i.few in
     record {
-      few = omega (arith, few);
-      gone = goes_further (g.A.Strategies.gives c.args.strategies.now) w c.rounds.worlds c.advance.new.worlds (last_horizon (world_setup w) + 1) c.rounds.left n
-          i.few less i.gone c.in_ok-taken.ensures.ok;
+      few = omega (arith, i.few);
+      gone = goes_further (g.A.Strategies.gives c.args.strategies.now) w c.rounds.worlds c.advance.new.worlds (last_horizon (world_setup w) + 1) c.rounds.left
+          c.in_ok-taken.taken i.few c.in_ok-taken.ensures.few i.gone c.in_ok-taken.ensures.ok;
     }
 
 pub returns-then-have_ended-clause-ok : goal.returns-then-have_ended-clause-ok
