@@ -118,19 +118,24 @@ module _ (gives : MayGive) where
         };
   }
 
+  -- before the first step, whether memory ran out or not
+  before_steps : (f : Setup → Kept → Kept) (w : ManyState) (stopped : Bool) → AreReady w → LeadOn w f → (g : ℕ → Answers)
+      → IsIntermediateState (made_setup w g) (many_kept w) (f (made_setup w g) (many_kept w)) (record w { stopped = stopped })
+  before_steps f w stopped ready leads g = record {
+    there = many_kept w;
+    before = no_step (made_setup w g) (ready g) (many_kept w);
+    after = leads g (many_kept w);
+    books = λ s l. refl;
+    clocks = λ i. refl;
+    free = λ i. refl;
+  }
+
   -- a state that stopped before stays where it is
   pub stopped_before : (f : Setup → Kept → Kept) (w : ManyState) → w.stopped ≡ true → AreReady w → LeadOn w f → IsManyStopped gives f w w
   stopped_before f w e ready leads = record {
     stopped = e;
     same = all_same gives w;
-    way = λ g c. record {
-      there = many_kept w;
-      before = no_step (made_setup w g) (ready g) (many_kept w);
-      after = leads g (many_kept w);
-      books = λ s l. refl;
-      clocks = λ i. refl;
-      free = λ i. refl;
-    };
+    way = λ g c. before_steps f w w.stopped ready leads g;
   }
 
   -- memory ran out before the first step
@@ -144,14 +149,7 @@ module _ (gives : MayGive) where
       places = refl;
       openings = refl;
     };
-    way = λ g c. record {
-      there = many_kept w;
-      before = no_step (made_setup w g) (ready g) (many_kept w);
-      after = leads g (many_kept w);
-      books = λ s l. refl;
-      clocks = λ i. refl;
-      free = λ i. refl;
-    };
+    way = λ g c. before_steps f w true ready leads g;
   }
 
 -- Loops over a list.

@@ -30,7 +30,7 @@ use Rattle.swap_many.specs.Whole.{IsOfRun}
 use Rattle.swap_many.proofs.Follow.{replies_follow}
 use Rattle.swap_many.proofs.Units.{keeps_step, counted_is_placed}
 use Rattle.swap_many.proofs.Finish.{both_finish, finish_above, swap_ended}
-use Rattle.swap_many.proofs.Values.{can_for, same_deal, same_setup, continue_less}
+use Rattle.swap_many.proofs.Values.{can_for, same_deal, same_setup, continue_less, whole_still}
 use Rattle.swap_many.proofs.Along.{cut_run}
 use Rattle.swap_many.proofs.Way.{one_step, finish_steps}
 use Rattle.swap_many.proofs.Gone.{LeadOn, on_ok, on_err}
@@ -38,21 +38,7 @@ use Rattle.swap_many.proofs.Gone.{LeadOn, on_ok, on_err}
 -- With other stages all else is the same.
 
 pub whole_staged : (w : ManyState) (y : List Stage) → AreWhole w → AreWhole (record w { stages = y })
-whole_staged w y k = record {
-  few = k.few;
-  few_chains = k.few_chains;
-  places = k.places;
-  arcs = k.arcs;
-  swept = k.swept;
-  slots = k.slots;
-  chains = k.chains;
-  accounts = k.accounts;
-  units = k.units;
-  ready = k.ready;
-  on = k.on;
-  sound = k.sound;
-  kept = k.kept;
-}
+whole_staged w y k = whole_still w y w.stopped (λ e. e) k
 
 module _ (gives : MayGive) (f : Setup → Kept → Kept) (old new : ManyState) (x y : List Stage) where
   same_staged : AreSame gives old new → AreSame gives (record old { stages = x }) (record new { stages = y })

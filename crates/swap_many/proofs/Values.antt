@@ -21,6 +21,7 @@ use Rattle.swap_many.specs.Many.{Run, done}
 use Rattle.swap_many.specs.Kept.{Kept, Time, kept_done}
 use Rattle.swap_many.specs.Laws.{IsReadySetup, CanCome, CanSweep}
 use Rattle.swap_many.specs.Sound.{Keeps}
+use Rattle.swap_many.specs.Stages.{Stage}
 use Rattle.swap_many.specs.Value.{ManyState, no_world, no_chain, nth_world, nth_chain, swept_slots, world_setup, made_setup, many_kept, ContinueAll, AreAllHeld}
 use Rattle.swap_many.specs.Value.{AreSame, HasManyGone}
 use Rattle.swap_many.specs.Inside.{AreWhole}
@@ -206,9 +207,10 @@ module _ (w : ManyState) (s a : ℕ) (whole : AreWhole w) (can : CanSweep (world
   pub legal_at : IsLegal (nth_world w s).deal a (history (nth_world w s).state.book a)
   legal_at = let k = (whole.kept s can.swap).legal in k.legal a (subst (λ n. a < n) (sym k.one_each) can.arc)
 
--- memory ran out, and nothing else changed
-pub stopped_whole : (w : ManyState) → AreWhole w → AreWhole (record w { stopped = true })
-stopped_whole w k = record {
+-- with other stages, or after want of memory, all else is the same
+pub whole_still : (w : ManyState) (y : List Stage) (stopped : Bool) → (stopped ≡ false → w.stopped ≡ false) → AreWhole w
+    → AreWhole (record w { stages = y; stopped = stopped })
+whole_still w y stopped before k = record {
   few = k.few;
   few_chains = k.few_chains;
   places = k.places;
@@ -219,7 +221,11 @@ stopped_whole w k = record {
   accounts = k.accounts;
   units = k.units;
   ready = k.ready;
-  on = λ e. absurd (cc e);
-  sound = λ e. absurd (cc e);
+  on = λ e. k.on (before e);
+  sound = λ e. k.sound (before e);
   kept = k.kept;
 }
+
+-- memory ran out, and nothing else changed
+pub stopped_whole : (w : ManyState) → AreWhole w → AreWhole (record w { stopped = true })
+stopped_whole w k = whole_still w w.stages true (λ e. absurd (cc e)) k

@@ -1,4 +1,4 @@
-use Rattle.std.proofs.Common.{◌≡◌, ◌<◌, length, sym, subst}
+use Rattle.std.proofs.Common.{◌<◌, length, sym, subst}
 use Rattle.swap_many.specs.Accounts.{ChainState}
 use Rattle.swap_many.specs.Laws.{CanPay}
 use Rattle.swap_many.specs.Value.{no_chain, world_setup, nth_chain}
