@@ -108,17 +108,15 @@ invariant_of-self-2 c =
     let o = (goal.at.invariant_of-self-2 c).After-is_err-self-inside in
     let i = c.self.inside in
     let xs = i.actors.items in
-    let m = c.in-Conforming.machine in
-    let new = c.act-done.new.machine in
     let now = c.act-done.new.journal in
     let here = place o in
     let good = c.self.invariant.good (goes_on o) in
     record {
       ready = c.self.invariant.ready;
       ledgers = subst (λ d. AreArcLedgers d c.act-done.new.ledgers.items) here.is.1 c.act-done.ensures.ledgers;
-      actors = actor_set i.deal i.conforming i.seeds i.roles xs c.args.p (Conforming new now) c.self.invariant.actors here.below
+      actors = actor_set i.deal i.conforming i.seeds i.roles xs c.args.p (Conforming (new o) now) c.self.invariant.actors here.below
           (owned i.deal (slice_index_or i.conforming c.args.p false) (slice_index_or i.seeds c.args.p None) (slice_index_or i.roles c.args.p kinds.Manual)
-          c.args.p m new (j o) now c.act-done.ensures.owner here.is);
+          c.args.p (m o) (new o) (j o) now c.act-done.ensures.owner here.is);
       askers = c.self.invariant.askers;
       told = c.self.invariant.told;
       good =
@@ -128,13 +126,13 @@ invariant_of-self-2 c =
           λ on. room_unless c.act-done.result c.is_err-self-inside.result c.act-done.new.ledgers.items c.is_err-self-inside.ensures.value on
           c.act-done.ensures.room;
       journals =
-          λ on. each_set (IsJournaled i.deal) xs c.args.p (Conforming new now) (c.self.invariant.journals (goes_on o)) here.below
+          λ on. each_set (IsJournaled i.deal) xs c.args.p (Conforming (new o) now) (c.self.invariant.journals (goes_on o)) here.below
           (ok_unless c.act-done.result c.is_err-self-inside.result c.is_err-self-inside.ensures.value on
-          (subst (λ (x : Deal × ℕ). OnOk c.act-done.result (IsMachineJournal x.0 x.1 new.signed now)) (λ t. (here.is.1 t, here.is.2 t))
+          (subst (λ (x : Deal × ℕ). OnOk c.act-done.result (IsMachineJournal x.0 x.1 (new o).signed now)) (λ t. (here.is.1 t, here.is.2 t))
           c.act-done.ensures.journal));
       disks =
           λ on. err_unless c.act-done.result c.is_err-self-inside.result c.is_err-self-inside.ensures.value on
-          (stopped_disks i.deal i.conforming i.seeds i.roles (inside_questions i) i.ledgers.items xs (sw o) c.args.p m new (b o) (j o) now here
+          (stopped_disks i.deal i.conforming i.seeds i.roles (inside_questions i) i.ledgers.items xs (sw o) c.args.p (m o) (new o) (b o) (j o) now here
           c.self.invariant.actors c.self.invariant.ready (known o) good (c.self.invariant.journals (goes_on o))
           c.act-done.result c.act-done.ensures.between c.act-done.ensures.made);
       kept =

@@ -82,16 +82,14 @@ invariant_of-self-2 c =
     let o = (goal.at.invariant_of-self-2 c).After-is_err-self-inside in
     let i = c.self.inside in
     let xs = i.actors.items in
-    let m = c.in-Conforming.machine in
-    let new = c.crash-done.new.machine in
     let now = c.crash-done.new.journal in
     let here = place o in
     record {
       ready = c.self.invariant.ready;
       ledgers = c.self.invariant.ledgers;
-      actors = actor_set i.deal i.conforming i.seeds i.roles xs c.args.p (Conforming new now) c.self.invariant.actors here.below
+      actors = actor_set i.deal i.conforming i.seeds i.roles xs c.args.p (Conforming (new o) now) c.self.invariant.actors here.below
           (owned i.deal (slice_index_or i.conforming c.args.p false) (slice_index_or i.seeds c.args.p None) (slice_index_or i.roles c.args.p kinds.Manual)
-          c.args.p m new (j o) now c.crash-done.ensures.owner here.is);
+          c.args.p (m o) (new o) (j o) now c.crash-done.ensures.owner here.is);
       askers = c.self.invariant.askers;
       told = c.self.invariant.told;
       good =
@@ -100,12 +98,12 @@ invariant_of-self-2 c =
           (c.self.invariant.good (goes_on o));
       room = λ on. c.self.invariant.room (goes_on o);
       journals =
-          λ on. each_set (IsJournaled i.deal) xs c.args.p (Conforming new now) (c.self.invariant.journals (goes_on o)) here.below
+          λ on. each_set (IsJournaled i.deal) xs c.args.p (Conforming (new o) now) (c.self.invariant.journals (goes_on o)) here.below
           (ok_unless c.crash-done.result c.is_err-self-inside.result c.is_err-self-inside.ensures.value on
-          (subst (λ (v : ℕ). OnOk c.crash-done.result (IsMachineJournal i.deal v new.signed now)) here.is.2 c.crash-done.ensures.journal));
+          (subst (λ (v : ℕ). OnOk c.crash-done.result (IsMachineJournal i.deal v (new o).signed now)) here.is.2 c.crash-done.ensures.journal));
       disks =
           λ on. err_unless c.crash-done.result c.is_err-self-inside.result c.is_err-self-inside.ensures.value on (on_err c.crash-done.result
-          (crashed_disks i.deal i.conforming i.seeds i.roles (inside_questions i) i.ledgers.items xs c.args.p m new (j o) now here c.self.invariant.actors
+          (crashed_disks i.deal i.conforming i.seeds i.roles (inside_questions i) i.ledgers.items xs c.args.p (m o) (new o) (j o) now here c.self.invariant.actors
           (c.self.invariant.good (goes_on o)) (c.self.invariant.journals (goes_on o)))
           c.crash-done.ensures.between);
       kept = c.self.invariant.kept;
