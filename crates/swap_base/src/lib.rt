@@ -19,6 +19,6 @@ pub use fault::{Fault, NoMemory};
 pub use ghost_list::GhostList;
 pub use ids::{ArcId, Digest, LockId, PartyId};
 pub use listed::Listed;
-pub use pieces::{Piece, put};
+pub use pieces::{Piece, put, put_whole};
 pub use shared::Shared;
 pub use text::{ByteText, find_place};

@@ -3,7 +3,7 @@
 ghost use Rattle.std.specs.Prelude.{◌≡◌, ◌++◌, OnOk, OnErr};
 ghost use Rattle.swap_gen.specs.Line.{event_line, drawn_party_name};
 
-use swap_base::{ByteText, NoMemory, PartyId, Piece, put};
+use swap_base::{ByteText, NoMemory, PartyId, Piece, put_whole};
 use swap_job::Event;
 
 /// The name of a party; no text where the number is nobody's.
@@ -16,13 +16,15 @@ fn drawn_party_name(names: &[ByteText], p: PartyId) -> &[u8]
     }
 }
 
-/// Appends the line of an event. After want of memory a part of it stands there.
+/// Appends the line of an event that can be drawn; a call and a crash can't, and nothing is
+/// appended. Want of memory leaves the text as it was.
 #[tactic(auto, unfolding(crate::specs::Line::event_line))]
-fn put_line(out: &mut Vec<u8>, names: &[ByteText], event: &Event) -> Result<(), NoMemory>
-    ensures { OnOk result (out.new.items ≡ out.old.items ++ event_line names.now event.now) }
+pub fn put_event(out: &mut Vec<u8>, names: &[ByteText], event: &Event) -> Result<(), NoMemory>
+    ensures ok { OnOk result (out.new.items ≡ out.old.items ++ event_line names.now event.now) }
+    ensures err { OnErr result (out.new.items ≡ out.old.items) }
 {
     match event {
-        Event::Tick(arc, k) => put(
+        Event::Tick(arc, k) => put_whole(
             out,
             &[
                 Piece::Text("{\"by\":"),
@@ -32,7 +34,7 @@ fn put_line(out: &mut Vec<u8>, names: &[ByteText], event: &Event) -> Result<(), 
                 Piece::Text("}\n"),
             ],
         ),
-        Event::Look(p, arc) => put(
+        Event::Look(p, arc) => put_whole(
             out,
             &[
                 Piece::Text("{\"arc\":"),
@@ -42,7 +44,7 @@ fn put_line(out: &mut Vec<u8>, names: &[ByteText], event: &Event) -> Result<(), 
                 Piece::Text("\"}\n"),
             ],
         ),
-        Event::Act(p) => put(
+        Event::Act(p) => put_whole(
             out,
             &[
                 Piece::Text("{\"act\":\""),
@@ -53,16 +55,4 @@ fn put_line(out: &mut Vec<u8>, names: &[ByteText], event: &Event) -> Result<(), 
         Event::Call(_, _) => Ok(()),
         Event::Crash(_, _, _) => Ok(()),
     }
-}
-
-/// Appends the line of an event that can be drawn; a call and a crash can't, and nothing is
-/// appended. Want of memory leaves the text as it was.
-pub fn put_event(out: &mut Vec<u8>, names: &[ByteText], event: &Event) -> Result<(), NoMemory>
-    ensures ok { OnOk result (out.new.items ≡ out.old.items ++ event_line names.now event.now) }
-    ensures err { OnErr result (out.new.items ≡ out.old.items) }
-{
-    let mut line = Vec::new(*out.allocator());
-    put_line(&mut line, names, event)?;
-    out.extend_from_slice(&line)?;
-    Ok(())
 }
