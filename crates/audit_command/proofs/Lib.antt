@@ -2,4 +2,3 @@ pub mod Leads
 pub mod Ends
 pub mod Reported
 pub mod AuditEnds
-pub mod Statuses

@@ -1,10 +1,8 @@
 -- What each status of an audit says.
-use Rattle.std.specs.Prelude.{◌≡◌, ◌≤◌, ◌+◌, ◌⊎◌, ℕ, Bool, true, false, List, length, Option, Result, Ok, Err}
+use Rattle.std.specs.Prelude.{◌≡◌, ◌≤◌, ◌+◌, ◌⊎◌, ℕ, true, false, List, length, Option, Result, Ok, Err}
 use Rattle.std.specs.Io.KnownBytes.{Consumes, IsAtEnd, Keeps}
 use Rattle.swap_io.specs.Causes.{ConsumesAtMost, ConsumesSome, AppendsProperPrefix}
 use Rattle.swap_io.specs.Handed.{AppendsPrefix}
-use Rattle.swap_io.specs.declared.fault.TextFault.{TextFault}
-use Rattle.swap_io.specs.declared.fault.TextFault.TheVariants as faults
 use Rattle.refusals.specs.declared.refusal.Refusal.{Refusal}
 use Rattle.refusals.specs.Refusal.{refusal}
 use Rattle.command_input.specs.declared.status.Status.{Status}
@@ -14,13 +12,6 @@ use Rattle.command_input.specs.Streams.{HasReadFault, HasWriteFault, Streams}
 use Rattle.command_input.specs.Written.{IsWrittenWhole, Written}
 use Rattle.audit_command.specs.Output.{audit_output}
 use Rattle.audit_command.specs.Promised.{IsAudit}
-
--- the status of a text by how its writing ended, and by whether it tells of a finding
-abbrev pub written_status : Result (Unit {0}) TextFault → Bool → Status
-written_status (Ok u) true = Named
-written_status (Ok u) false = Done
-written_status (Err faults.WriteFault) found = WriteFault
-written_status (Err faults.NoMemory) found = NoMemory
 
 -- The whole input was read, and this is the audit's output for it.
 pub record HasAuditAnswer (left left' : Option (List ℕ)) (output : Result Written Refusal) : Type 0 where

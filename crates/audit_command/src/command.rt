@@ -10,9 +10,8 @@ ghost use Rattle.audit_command.specs.Says.{AuditSays};
 ghost use Rattle.transcript_reader.specs.Header.{IsTranscriptJob};
 
 use crate::judged::judge;
-use crate::status::written_status;
 use crate::story::read_story;
-use command_input::{Input, Status, unread};
+use command_input::{Input, Status, unread, written_status};
 use ledger_core::Book;
 use outcome_rules::Report;
 use report_text::write_report;

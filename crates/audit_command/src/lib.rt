@@ -9,8 +9,6 @@
 mod command;
 mod input;
 mod judged;
-mod status;
 mod story;
 
 pub use command::audit_transcript;
-pub use status::written_status;

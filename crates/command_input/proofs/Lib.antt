@@ -1,3 +1,4 @@
 pub mod Filled
 pub mod Ahead
 pub mod Streams
+pub mod Statuses

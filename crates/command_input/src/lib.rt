@@ -17,5 +17,5 @@ pub use exit::{Exit, Told, refusal_text};
 pub use fault::{InputFault, no_line};
 pub use input::{INPUT_LIMIT, Input};
 pub use lines::{filled_lines, is_blank};
-pub use status::{Status, unread};
+pub use status::{Status, unread, written_status};
 pub use words::collect_words;

@@ -2,10 +2,12 @@
 
 ghost use Rattle.std.specs.Prelude.{◌≡◌};
 ghost use Rattle.command_input.specs.Faults.{unread};
+ghost use Rattle.command_input.specs.Written.{written_status};
 
 use crate::fault::InputFault;
 use refusals::{Reason, Refusal};
 use swap_base::{ByteText, Listed};
+use swap_io::TextFault;
 
 /// How a run of the program ended.
 #[derive(Debug, Drop)]
@@ -32,5 +34,17 @@ pub fn unread(fault: InputFault<Refusal>) -> Status
         InputFault::ReadFault => Status::ReadFault,
         InputFault::TooLong => Status::TooLong,
         InputFault::NoMemory => Status::NoMemory,
+    }
+}
+
+/// The status of a text by how its writing ended. `found` tells whether the text tells of a
+/// finding.
+pub fn written_status(written: Result<(), TextFault>, found: bool) -> Status
+    ensures { result ≡ written_status written found }
+{
+    match written {
+        Ok(()) => { if found { Status::Named } else { Status::Done } }
+        Err(TextFault::WriteFault) => Status::WriteFault,
+        Err(TextFault::NoMemory) => Status::NoMemory,
     }
 }

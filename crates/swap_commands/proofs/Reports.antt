@@ -13,10 +13,9 @@ use Rattle.swap_digraph.specs.Deal.{IsWellSized, most_arcs}
 use Rattle.ledger_core.specs.Book.{Histories, IsLegalBook}
 use Rattle.swap_job.specs.declared.job.Job.{Job}
 use Rattle.outcome_rules.specs.declared.report.Report.{Report}
-use Rattle.command_input.specs.Written.{StatusWrites}
+use Rattle.command_input.specs.Written.{StatusWrites, written_status}
 use Rattle.command_input.specs.declared.status.Status.{Status}
-use Rattle.audit_command.specs.Says.{written_status}
-use Rattle.audit_command.proofs.Statuses.{status_writes}
+use Rattle.command_input.proofs.Statuses.{status_writes}
 use Rattle.swap_commands.specs.Output.{book_report, reported, run_text, with_report}
 
 most : (v : Version) → most_arcs v ≤ 256

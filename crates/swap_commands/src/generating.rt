@@ -7,8 +7,7 @@ ghost use Rattle.swap_commands.specs.Generated.{IsRequestStatus, IsSummary, summ
 ghost use Rattle.swap_gen.specs.Drawn.{generated};
 ghost use Rattle.made_jobs.specs.Generating.{generated_book};
 
-use audit_command::written_status;
-use command_input::Status;
+use command_input::{Status, written_status};
 use made_jobs::{Summary, summarize, write_generated};
 use program_words::Request;
 use std::alloc::Global;

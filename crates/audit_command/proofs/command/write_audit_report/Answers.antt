@@ -1,7 +1,7 @@
 use Rattle.std.proofs.Common.{ap, not, sym}
 use Rattle.audit_command.specs.Output.{story, story_output}
 use Rattle.audit_command.proofs.Reported.{few_told}
-use Rattle.audit_command.proofs.Statuses.{status_writes}
+use Rattle.command_input.proofs.Statuses.{status_writes}
 use Rattle.audit_command.proofs.command.write_audit_report.Goals as goal
 
 pub write_report-written-requires-clause-parties : goal.write_report-written-requires-clause-parties

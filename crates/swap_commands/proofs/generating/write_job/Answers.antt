@@ -1,5 +1,5 @@
 use Rattle.std.proofs.Common.{refl}
-use Rattle.audit_command.proofs.Statuses.{status_writes}
+use Rattle.command_input.proofs.Statuses.{status_writes}
 use Rattle.swap_commands.specs.Generated.{text_output}
 use Rattle.swap_commands.proofs.generating.write_job.Goals as goal
 

@@ -6,9 +6,8 @@ use Rattle.swap_io.specs.Causes.{AppendsProperPrefix, Rose}
 use Rattle.swap_io.specs.Handed.{AppendsPrefix}
 use Rattle.swap_io.specs.declared.fault.TextFault.{TextFault}
 use Rattle.swap_io.specs.declared.fault.TextFault.TheVariants as faults
-use Rattle.command_input.specs.Written.{StatusWrites, Written}
+use Rattle.command_input.specs.Written.{StatusWrites, Written, written_status}
 use Rattle.command_input.specs.declared.status.Status.{Status}
-use Rattle.audit_command.specs.Says.{written_status}
 
 module _ (taken taken' : Option (List ℕ)) (p q : ℕ) (output : Written) where
   writes : (written : Result (Unit {0}) TextFault) (found : Bool) → output.found ≡ found → OnOk written (Appends taken taken' output.text)
