@@ -20,7 +20,8 @@ use Rattle.offer_events.specs.Plain.{is_plain_byte}
 use Rattle.offer_events.specs.declared.raw.RawEvent.TheVariants as raws
 use Rattle.offer_events.proofs.PlainText.{act_alone, arc_then_look, asked_by, by_then_tick}
 use Rattle.swap_gen.specs.Events.{drawn_event, drawn_events}
-use Rattle.swap_gen.specs.Line.{event_line, drawn_party_name}
+use Rattle.refusals.specs.Words.{party_name}
+use Rattle.swap_gen.specs.Line.{event_line}
 use Rattle.swap_gen.specs.Word.{word}
 use Rattle.swap_offer.specs.Job.{parse_events, limited_event}
 use Rattle.command_input.specs.Lines.{is_blank}
@@ -42,8 +43,8 @@ IsDrawn _ = Unit {0}
 -- its line, without the line feed
 abbrev pub event_text : List (List ℕ) → Event → List ℕ
 event_text names (Tick a k) = joined (codes "{\"by\":" ∷ decimal k ∷ codes ",\"tick\":" ∷ decimal a ∷ codes "}" ∷ [])
-event_text names (Look p a) = joined (codes "{\"arc\":" ∷ decimal a ∷ codes ",\"look\":\"" ∷ drawn_party_name names p ∷ codes "\"}" ∷ [])
-event_text names (Act p) = joined (codes "{\"act\":\"" ∷ drawn_party_name names p ∷ codes "\"}" ∷ [])
+event_text names (Look p a) = joined (codes "{\"arc\":" ∷ decimal a ∷ codes ",\"look\":\"" ∷ party_name names p ∷ codes "\"}" ∷ [])
+event_text names (Act p) = joined (codes "{\"act\":\"" ∷ party_name names p ∷ codes "\"}" ∷ [])
 event_text names (Call p mv) = []
 event_text names (Crash p k image) = []
 
@@ -55,9 +56,9 @@ with_feed names (Tick a k) d =
     ∙ sym (append_assoc (decimal k) (codes ",\"tick\":" ++ (decimal a ++ codes "}")) (codes "\n")))
 with_feed names (Look p a) d =
     ap (λ (l : List ℕ). codes "{\"arc\":" ++ l)
-    (ap (λ (l : List ℕ). decimal a ++ (codes ",\"look\":\"" ++ l)) (sym (append_assoc (drawn_party_name names p) (codes "\"}") (codes "\n")))
-    ∙ sym (append_assoc (decimal a) (codes ",\"look\":\"" ++ (drawn_party_name names p ++ codes "\"}")) (codes "\n")))
-with_feed names (Act p) d = ap (λ (l : List ℕ). codes "{\"act\":\"" ++ l) (sym (append_assoc (drawn_party_name names p) (codes "\"}") (codes "\n")))
+    (ap (λ (l : List ℕ). decimal a ++ (codes ",\"look\":\"" ++ l)) (sym (append_assoc (party_name names p) (codes "\"}") (codes "\n")))
+    ∙ sym (append_assoc (decimal a) (codes ",\"look\":\"" ++ (party_name names p ++ codes "\"}")) (codes "\n")))
+with_feed names (Act p) d = ap (λ (l : List ℕ). codes "{\"act\":\"" ++ l) (sym (append_assoc (party_name names p) (codes "\"}") (codes "\n")))
 with_feed names (Call p mv) d = absurd d
 with_feed names (Crash p k image) d = absurd d
 
@@ -87,8 +88,8 @@ number_line n lt = high_line (decimal n) (high_number n lt)
 -- numbers of an event that have at most 64 bits, and names that need no escape
 abbrev pub IsPlainEvent : List (List ℕ) → Event → Type 0
 IsPlainEvent names (Tick a k) = (a < 2 ^ 64) × (k < 2 ^ 64)
-IsPlainEvent names (Look p a) = (a < 2 ^ 64) × (list_all is_plain_byte (drawn_party_name names p) ≡ true)
-IsPlainEvent names (Act p) = list_all is_plain_byte (drawn_party_name names p) ≡ true
+IsPlainEvent names (Look p a) = (a < 2 ^ 64) × (list_all is_plain_byte (party_name names p) ≡ true)
+IsPlainEvent names (Act p) = list_all is_plain_byte (party_name names p) ≡ true
 IsPlainEvent names (Call p mv) = ⊥
 IsPlainEvent names (Crash p k image) = ⊥
 
@@ -97,9 +98,9 @@ event_is_line names (Tick a k) h =
     both_lines (decimal k) (codes ",\"tick\":" ++ (decimal a ++ codes "}")) (number_line k h.1)
     (both_lines (decimal a) (codes "}") (number_line a h.0) refl)
 event_is_line names (Look p a) h =
-    both_lines (decimal a) (codes ",\"look\":\"" ++ (drawn_party_name names p ++ codes "\"}")) (number_line a h.0)
-    (both_lines (drawn_party_name names p) (codes "\"}") (plain_line (drawn_party_name names p) h.1) refl)
-event_is_line names (Act p) h = both_lines (drawn_party_name names p) (codes "\"}") (plain_line (drawn_party_name names p) h) refl
+    both_lines (decimal a) (codes ",\"look\":\"" ++ (party_name names p ++ codes "\"}")) (number_line a h.0)
+    (both_lines (party_name names p) (codes "\"}") (plain_line (party_name names p) h.1) refl)
+event_is_line names (Act p) h = both_lines (party_name names p) (codes "\"}") (plain_line (party_name names p) h) refl
 event_is_line names (Call p mv) h = absurd h
 event_is_line names (Crash p k image) h = absurd h
 
@@ -126,8 +127,8 @@ drawn_from job seed g can at (suc count) = (can at, is_drawn seed g at, drawn_fr
 -- What is known of a job whose events are drawn.
 pub record HasPlainNames (job : Job) : Type 0 where
   pub arcs : length job.deal.graph.arcs ≤ 128
-  pub number : (line p : ℕ) → p < job.deal.graph.n → party_of_name line job.names (drawn_party_name job.names p) ≡ Ok p
-  pub plain : (p : ℕ) → p < job.deal.graph.n → list_all is_plain_byte (drawn_party_name job.names p) ≡ true
+  pub number : (line p : ℕ) → p < job.deal.graph.n → party_of_name line job.names (party_name job.names p) ≡ Ok p
+  pub plain : (p : ℕ) → p < job.deal.graph.n → list_all is_plain_byte (party_name job.names p) ≡ true
   pub outside : (line : ℕ) → outside_race line job.purpose ≡ Ok tt
 
 module _ (job : Job) (k : HasPlainNames job) where
@@ -151,14 +152,14 @@ module _ (job : Job) (k : HasPlainNames job) where
   unfolding adjacent
   near_back line p a can = ap (λ (b : Bool). cond b (Ok tt) (Err (NotAdjacent line))) can.adjacent
 
-  look_back : (line p a : ℕ) → CanLook job.deal p a → event_of_look job line (drawn_party_name job.names p) a ≡ Ok (Look p a)
+  look_back : (line p a : ℕ) → CanLook job.deal p a → event_of_look job line (party_name job.names p) a ≡ Ok (Look p a)
   unfolding event_of_look
   look_back line p a can =
       step _ p _ (k.number line p can.known)
       ∙ step _ a _ (arc_back line (codes "arc") a can.arc)
       ∙ step _ tt _ (near_back line p a can)
 
-  act_back : (line p : ℕ) → p < job.deal.graph.n → event_of_act job line (drawn_party_name job.names p) ≡ Ok (Act p)
+  act_back : (line p : ℕ) → p < job.deal.graph.n → event_of_act job line (party_name job.names p) ≡ Ok (Act p)
   unfolding event_of_act
   act_back line p lt = step _ p _ (k.number line p lt)
 
@@ -172,12 +173,12 @@ module _ (job : Job) (k : HasPlainNames job) where
       ∙ step _ tt _ (k.outside line)
   event_back line (Look p a) can d =
       let h = plain_event (Look p a) can d in
-      asked_by job line (event_text job.names (Look p a)) (raws.Look (drawn_party_name job.names p) a) (arc_then_look line a (drawn_party_name job.names p)
-      (event_text job.names (Look p a)) (codes ",\"look\":\"" ++ (drawn_party_name job.names p ++ codes "\"}")) (codes "}") h.0 h.1 refl refl refl)
+      asked_by job line (event_text job.names (Look p a)) (raws.Look (party_name job.names p) a) (arc_then_look line a (party_name job.names p)
+      (event_text job.names (Look p a)) (codes ",\"look\":\"" ++ (party_name job.names p ++ codes "\"}")) (codes "}") h.0 h.1 refl refl refl)
       ∙ step _ (Look p a) _ (look_back line p a can)
       ∙ step _ tt _ (k.outside line)
   event_back line (Act p) can d =
-      asked_by job line (event_text job.names (Act p)) (raws.Act (drawn_party_name job.names p)) (act_alone line (drawn_party_name job.names p)
+      asked_by job line (event_text job.names (Act p)) (raws.Act (party_name job.names p)) (act_alone line (party_name job.names p)
       (event_text job.names (Act p)) (codes "}") (k.plain p can) refl refl)
       ∙ step _ (Act p) _ (act_back line p can)
       ∙ step _ tt _ (k.outside line)

@@ -1,20 +1,11 @@
 //! The line of an event.
 
 ghost use Rattle.std.specs.Prelude.{◌≡◌, ◌++◌, OnOk, OnErr};
-ghost use Rattle.swap_gen.specs.Line.{event_line, drawn_party_name};
+ghost use Rattle.swap_gen.specs.Line.{event_line};
 
-use swap_base::{ByteText, NoMemory, PartyId, Piece, put_whole};
+use refusals::party_name;
+use swap_base::{ByteText, NoMemory, Piece, put_whole};
 use swap_job::Event;
-
-/// The name of a party; no text where the number is nobody's.
-fn drawn_party_name(names: &[ByteText], p: PartyId) -> &[u8]
-    ensures { result.now ≡ drawn_party_name names.now p }
-{
-    match names.get(p as usize) {
-        Some(name) => name.as_slice(),
-        None => &[],
-    }
-}
 
 /// Appends the line of an event that can be drawn; a call and a crash can't, and nothing is
 /// appended. Want of memory leaves the text as it was.
@@ -40,7 +31,7 @@ pub fn put_event(out: &mut Vec<u8>, names: &[ByteText], event: &Event) -> Result
                 Piece::Text("{\"arc\":"),
                 Piece::Number(*arc as u64),
                 Piece::Text(",\"look\":\""),
-                Piece::Bytes(drawn_party_name(names, *p)),
+                Piece::Bytes(party_name(names, *p)),
                 Piece::Text("\"}\n"),
             ],
         ),
@@ -48,7 +39,7 @@ pub fn put_event(out: &mut Vec<u8>, names: &[ByteText], event: &Event) -> Result
             out,
             &[
                 Piece::Text("{\"act\":\""),
-                Piece::Bytes(drawn_party_name(names, *p)),
+                Piece::Bytes(party_name(names, *p)),
                 Piece::Text("\"}\n"),
             ],
         ),
