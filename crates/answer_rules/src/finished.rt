@@ -16,7 +16,7 @@ use swap_digraph::Deal;
 use time_bounds::opening_deadline;
 
 /// The greatest height up to which a lock of the arc can be opened.
-#[tactic(auto, using(late_check::proofs::Loops::greatest_more))]
+#[tactic(auto, using(conduct_check::proofs::LateLoops::greatest_more))]
 pub fn greatest_expiry(deal: &Deal, arc: ArcId) -> u64
     requires sized { IsWellSized deal.now }
     requires arc { arc < length deal.now.graph.arcs }
@@ -39,7 +39,7 @@ fn is_settled(known: &[Index], arc: ArcId) -> bool
     }
 }
 
-#[tactic(auto, using(late_check::proofs::FirstAnswer::some_published))]
+#[tactic(auto, using(conduct_check::proofs::FirstAnswer::some_published))]
 fn is_published(deal: &Deal, known: &[Index], arc: ArcId) -> bool
     requires { AreIndexes deal.now known.now }
     ensures { result ≡ is_some (published_in (history (all_entries known.now) arc)) }

@@ -4,17 +4,16 @@ ghost use Rattle.std.specs.Prelude.{◌≡◌, ◌<◌, ◌^◌, IfSome, length}
 ghost use Rattle.swap_digraph.specs.Deal.{IsWellSized};
 ghost use Rattle.swap_digraph.specs.Graph.{entering, is_listed as is_listed_arc, leaving};
 ghost use Rattle.history_index.specs.Indexes.{all_entries, AreIndexes};
-ghost use Rattle.sent_keys.specs.Sent.{shown, party_unlocks};
+ghost use Rattle.conduct_check.specs.Sent.{shown, party_unlocks};
 ghost use Rattle.swap_rules.specs.declared.finding.Rule.TheVariants.{Publish as ToPublish, Unlock as ToUnlock, Claim as ToClaim, Refund as ToRefund};
 ghost use Rattle.swap_rules.specs.Late.{reference_height};
 ghost use Rattle.answer_rules.specs.Heights.{asked_height, last_on_time};
 
+use conduct_check::{claim_start, first_key, publish_start, refund_start, unlock_start};
 use due_calls::{least_expiry, ready_height};
 use hashkey_path::Hashkey;
 use history_index::Index;
-use late_check::{claim_start, publish_start, refund_start, unlock_start};
 use ledger_core::Call;
-use sent_keys::first_key;
 use swap_base::{ArcId, LockId, PartyId};
 use swap_digraph::{Deal, is_listed};
 

@@ -2,13 +2,13 @@
 use Rattle.std.proofs.Common.{◌≡◌, inl, inr, ℕ, List, Option, Result, Ok, Err, refl, ap, ◌∙◌, arith}
 use Rattle.std.proofs.KnownBytes.{Keeps-refl}
 use Rattle.swap_base.specs.Fault.{◌>>=◌}
-use Rattle.refusals.specs.declared.refusal.Refusal.{Refusal}
+use Rattle.command_input.specs.declared.refusal.Refusal.{Refusal}
 use Rattle.outcome_rules.specs.declared.report.Report.{Report}
 use Rattle.ledger_core.specs.WellFormed.{IsWellFormed}
-use Rattle.transcript_reader.specs.declared.reason.TranscriptReason.{TranscriptReason}
-use Rattle.transcript_reader.specs.Header.{header_read, IsTranscriptJob}
-use Rattle.transcript_reader.specs.Reading.{Story}
-use Rattle.transcript_reader.proofs.Whole.{text_is_whole}
+use Rattle.audit_command.specs.declared.reason.TranscriptReason.{TranscriptReason}
+use Rattle.audit_command.specs.Header.{header_read, IsTranscriptJob}
+use Rattle.audit_command.specs.TranscriptReading.{Story}
+use Rattle.audit_command.proofs.Whole.{text_is_whole}
 use Rattle.command_input.specs.declared.fault.InputFault.{InputFault}
 use Rattle.command_input.specs.declared.fault.InputFault.TheVariants as stopped
 use Rattle.command_input.specs.declared.status.Status.{Status}

@@ -4,10 +4,10 @@ use Rattle.std.specs.Prelude.{IfOk, IfErr}
 use Rattle.swap_io.specs.Causes.{ConsumesAtMost, ConsumesSome}
 use Rattle.ledger_core.specs.declared.entry.Book.{Book}
 use Rattle.swap_job.specs.declared.job.Job.{Job}
-use Rattle.refusals.specs.declared.refusal.Refusal.{Refusal}
-use Rattle.transcript_reader.specs.declared.reason.TranscriptReason.{TranscriptReason}
-use Rattle.transcript_reader.specs.Stages.{Progress}
-use Rattle.transcript_reader.specs.Reading.{story_at_end, job_story}
+use Rattle.command_input.specs.declared.refusal.Refusal.{Refusal}
+use Rattle.audit_command.specs.declared.reason.TranscriptReason.{TranscriptReason}
+use Rattle.audit_command.specs.Stages.{Progress}
+use Rattle.audit_command.specs.TranscriptReading.{story_at_end, job_story}
 use Rattle.command_input.specs.Faults.{retold}
 use Rattle.command_input.specs.declared.fault.InputFault.{InputFault}
 use Rattle.command_input.specs.declared.fault.InputFault.TheVariants.{Refused, ReadFault, TooLong, NoMemory}

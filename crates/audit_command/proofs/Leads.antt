@@ -5,18 +5,18 @@ use Rattle.std.proofs.lemmas.Bool.{and_parts}
 use Rattle.swap_base.specs.declared.fault.Fault.{Fault}
 use Rattle.swap_base.specs.declared.fault.Fault.TheVariants as fault
 use Rattle.swap_io.specs.Lines.{lacks_feed}
-use Rattle.transcript_lines.specs.Between.{longer_first, separated_parts}
-use Rattle.transcript_reader.specs.declared.reason.TranscriptReason.{TranscriptReason}
-use Rattle.transcript_reader.specs.Header.{header_read}
-use Rattle.transcript_reader.specs.Stages.{Progress, no_lines, with_line}
-use Rattle.transcript_reader.specs.Reading.{ReadsTranscriptLine, parts_read, transcript_read}
-use Rattle.transcript_reader.proofs.Steps.{bad_reads, line_on}
+use Rattle.transcript_book.specs.Between.{longer_first, separated_parts}
+use Rattle.audit_command.specs.declared.reason.TranscriptReason.{TranscriptReason}
+use Rattle.audit_command.specs.Header.{header_read}
+use Rattle.audit_command.specs.Stages.{Progress, no_lines, with_line}
+use Rattle.audit_command.specs.TranscriptReading.{ReadsTranscriptLine, parts_read, transcript_read}
+use Rattle.audit_command.proofs.Steps.{bad_reads, line_on}
 use Rattle.command_input.specs.Faults.{of_offer}
 use Rattle.command_input.specs.Input.{InputProgress, Desk, Ends, GivesPart, IsFed, IsRest, Stands, Stops, desk, fresh}
 use Rattle.command_input.proofs.Ahead.{stands_none, stands_on}
 use Rattle.command_input.proofs.Streams.{can_come, fits_fresh, no_memory_after}
 use Rattle.audit_command.specs.Reading.{IsBad, IsReadByReader}
-use Rattle.transcript_reader.proofs.Back.{not_feed}
+use Rattle.audit_command.proofs.Back.{not_feed}
 
 -- ---- lines
 

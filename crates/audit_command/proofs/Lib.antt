@@ -1,3 +1,7 @@
+pub mod Whole
+pub mod Back
+pub mod Steps
+pub mod LastLine
 pub mod Leads
 pub mod Ends
 pub mod Reported

@@ -2,20 +2,20 @@
 -- state.
 use Rattle.std.specs.Prelude.{◌==◌, ℕ, not, List, [], length, Result, Ok, Err}
 use Rattle.swap_base.specs.Fault.{◌>>=◌}
-use Rattle.refusals.specs.declared.reason.Reason.{Reason}
-use Rattle.refusals.specs.declared.reason.Reason.TheVariants as reasons
-use Rattle.refusals.specs.declared.refusal.Refusal.{Refusal}
-use Rattle.refusals.specs.Refusal.{refusal}
+use Rattle.command_input.specs.declared.reason.Reason.{Reason}
+use Rattle.command_input.specs.declared.reason.Reason.TheVariants as reasons
+use Rattle.command_input.specs.declared.refusal.Refusal.{Refusal}
+use Rattle.command_input.specs.Refusal.{refusal}
 use Rattle.ledger_core.specs.Book.{Histories}
 use Rattle.swap_job.specs.declared.job.Job.{Job}
 use Rattle.outcome_rules.specs.declared.report.Report.{Report}
-use Rattle.report_text.specs.Report.{report}
+use Rattle.run_texts.specs.Report.{report}
 use Rattle.swap_auditor.specs.declared.replay.BadReply.{BadReply}
 use Rattle.swap_auditor.specs.Audit.{audited}
-use Rattle.transcript_reader.specs.declared.reason.TranscriptReason.{TranscriptReason}
-use Rattle.transcript_reader.specs.declared.reason.TranscriptReason.TheVariants.{BadLine, TooLong, CutShort, Header}
-use Rattle.transcript_reader.specs.Header.{header_read}
-use Rattle.transcript_reader.specs.Reading.{Story, transcript_read}
+use Rattle.audit_command.specs.declared.reason.TranscriptReason.{TranscriptReason}
+use Rattle.audit_command.specs.declared.reason.TranscriptReason.TheVariants.{BadLine, TooLong, CutShort, Header}
+use Rattle.audit_command.specs.Header.{header_read}
+use Rattle.audit_command.specs.TranscriptReading.{Story, transcript_read}
 use Rattle.command_input.specs.Written.{Written}
 
 abbrev pub story : Job → Histories → Story

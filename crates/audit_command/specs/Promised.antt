@@ -7,9 +7,9 @@ use Rattle.outcome_rules.specs.declared.report.Report.{Report}
 use Rattle.outcome_rules.specs.Report.{is_conforming_party, build_report}
 use Rattle.outcome_rules.specs.Promises.{AllAreConforming, AllAreWhole, AllHaveRefunds, NoneIsUnderwater, shown_outcome}
 use Rattle.swap_auditor.specs.Audit.{AreUnitsConserved}
-use Rattle.transcript_reader.specs.Header.{header_read, IsTranscriptJob}
-use Rattle.transcript_reader.specs.Laws.{IsWholeText}
-use Rattle.transcript_reader.specs.Reading.{Story, transcript_read}
+use Rattle.audit_command.specs.Header.{header_read, IsTranscriptJob}
+use Rattle.audit_command.specs.Laws.{IsWholeText}
+use Rattle.audit_command.specs.TranscriptReading.{Story, transcript_read}
 use Rattle.audit_command.specs.Output.{story_output}
 use Rattle.command_input.specs.Written.{Written}
 

@@ -2,11 +2,11 @@
 use Rattle.std.specs.Prelude.{◌≡◌, ℕ, List, Result, Ok, Err}
 use Rattle.ledger_core.specs.declared.entry.Book.{Book}
 use Rattle.swap_job.specs.declared.job.Job.{Job}
-use Rattle.refusals.specs.declared.refusal.Refusal.{Refusal}
-use Rattle.transcript_reader.specs.declared.reason.TranscriptReason.{TranscriptReason}
-use Rattle.transcript_reader.specs.Header.{header_read}
-use Rattle.transcript_reader.specs.Stages.{Progress}
-use Rattle.transcript_reader.specs.Reading.{Story, story_at_end, job_story, transcript_read}
+use Rattle.command_input.specs.declared.refusal.Refusal.{Refusal}
+use Rattle.audit_command.specs.declared.reason.TranscriptReason.{TranscriptReason}
+use Rattle.audit_command.specs.Header.{header_read}
+use Rattle.audit_command.specs.Stages.{Progress}
+use Rattle.audit_command.specs.TranscriptReading.{Story, story_at_end, job_story, transcript_read}
 use Rattle.command_input.specs.declared.fault.InputFault.{InputFault}
 use Rattle.command_input.specs.declared.fault.InputFault.TheVariants.{Refused, ReadFault, TooLong, NoMemory}
 use Rattle.audit_command.specs.Output.{by_text, input_story}

@@ -7,14 +7,14 @@ ghost use Rattle.command_input.specs.Written.{StatusWrites};
 ghost use Rattle.audit_command.specs.Output.{story_output, story};
 ghost use Rattle.audit_command.specs.Promised.{IsSoundAudit};
 ghost use Rattle.audit_command.specs.Says.{AuditSays};
-ghost use Rattle.transcript_reader.specs.Header.{IsTranscriptJob};
+ghost use Rattle.audit_command.specs.Header.{IsTranscriptJob};
 
 use crate::judged::judge;
 use crate::story::read_story;
 use command_input::{Input, Status, unread, written_status};
 use ledger_core::Book;
 use outcome_rules::Report;
-use report_text::write_report;
+use run_texts::write_report;
 use std::alloc::Global;
 use swap_base::Fault;
 use swap_io::{Sink, Source};

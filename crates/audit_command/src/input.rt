@@ -1,13 +1,14 @@
 //! The lines of an input, handed to the reader of transcripts.
 
 ghost use Rattle.std.specs.Prelude.{◌≡◌, IfErr, OnOk};
-ghost use Rattle.transcript_reader.specs.Stages.{no_lines};
+ghost use Rattle.audit_command.specs.Stages.{no_lines};
 ghost use Rattle.command_input.specs.Input.{Ends, Stops, desk, fresh};
 ghost use Rattle.audit_command.specs.Reading.{IsBad, IsReadByReader};
 
+use crate::reader::TranscriptReader;
+use crate::reason::TranscriptReason;
 use command_input::{Input, InputFault};
 use swap_io::Source;
-use transcript_reader::{TranscriptReader, TranscriptReason};
 
 /// Reads the lines of an input up to its end. The input's text is then what stands after the last
 /// line feed.

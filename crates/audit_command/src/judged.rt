@@ -3,13 +3,13 @@
 ghost use Rattle.std.specs.Prelude.{◌≡◌, IfOk};
 ghost use Rattle.swap_base.specs.Fault.{Gives};
 ghost use Rattle.ledger_core.specs.WellFormed.{IsWellFormed};
-ghost use Rattle.transcript_reader.specs.Header.{IsTranscriptJob};
+ghost use Rattle.audit_command.specs.Header.{IsTranscriptJob};
 ghost use Rattle.audit_command.specs.Output.{judged, refused_reply, story};
 ghost use Rattle.audit_command.specs.Promised.{IsSoundAudit};
 
+use command_input::{Reason, Refusal, nameless};
 use ledger_core::Book;
 use outcome_rules::Report;
-use refusals::{Reason, Refusal, nameless};
 use std::alloc::Global;
 use swap_auditor::{BadReply, audit_book};
 use swap_base::Fault;

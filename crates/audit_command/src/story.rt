@@ -1,22 +1,22 @@
 //! The job and the book that an input states.
 
 ghost use Rattle.std.specs.Prelude.{◌≡◌, IfOk, IfErr};
-ghost use Rattle.transcript_reader.specs.Header.{IsTranscriptJob};
-ghost use Rattle.transcript_reader.specs.Reading.{story_at_end, job_story};
+ghost use Rattle.audit_command.specs.Header.{IsTranscriptJob};
+ghost use Rattle.audit_command.specs.TranscriptReading.{story_at_end, job_story};
 ghost use Rattle.audit_command.specs.Output.{to_refusal};
 ghost use Rattle.command_input.specs.Faults.{retold};
 ghost use Rattle.command_input.specs.Input.{Ends, HasStopped, desk, fresh};
 ghost use Rattle.audit_command.specs.Reading.{Concludes, IsStory, IsStoryRefusal};
 
 use crate::input::read_lines;
-use command_input::{Input, InputFault};
+use crate::reader::TranscriptReader;
+use crate::reason::TranscriptReason;
+use command_input::{Input, InputFault, Reason, Refusal, nameless};
 use ledger_core::Book;
-use refusals::{Reason, Refusal, nameless};
 use std::alloc::Global;
 use swap_base::Fault;
 use swap_io::Source;
 use swap_job::Job;
-use transcript_reader::{TranscriptReader, TranscriptReason};
 
 /// The refusal of a text.
 fn to_refusal(alloc: Global, reason: TranscriptReason) -> Refusal

@@ -1,3 +1,5 @@
+pub mod Codes
+pub mod Named
 pub mod Filled
 pub mod Ahead
 pub mod Streams

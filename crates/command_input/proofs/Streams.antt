@@ -12,7 +12,7 @@ use Rattle.swap_io.specs.declared.fault.DrainFault.TheVariants as drained
 use Rattle.command_input.specs.declared.fault.InputFault.{InputFault}
 use Rattle.command_input.specs.declared.fault.InputFault.TheVariants.{Refused, ReadFault, TooLong, NoMemory}
 use Rattle.command_input.specs.declared.status.Status.TheVariants as status
-use Rattle.refusals.specs.declared.refusal.Refusal.{Refusal}
+use Rattle.command_input.specs.declared.refusal.Refusal.{Refusal}
 use Rattle.command_input.specs.Faults.{of_drain, of_line, of_offer, retold, unread}
 use Rattle.command_input.specs.Input.{InputProgress, Breaks, CanBeLeft, Desk, Drains, Ends, Faulted, Fits, GivesLine, GivesNoLine}
 use Rattle.command_input.specs.Input.{HasStopped, HasNoNewFault, IsDrained, IsLast, IsLine}

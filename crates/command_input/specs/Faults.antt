@@ -6,8 +6,8 @@ use Rattle.swap_io.specs.declared.fault.DrainFault.{DrainFault}
 use Rattle.swap_io.specs.declared.fault.DrainFault.TheVariants as drained
 use Rattle.swap_base.specs.declared.fault.Fault.{Fault}
 use Rattle.swap_base.specs.declared.fault.Fault.TheVariants as offer
-use Rattle.refusals.specs.declared.reason.Reason.{Reason}
-use Rattle.refusals.specs.declared.refusal.Refusal.{Refusal}
+use Rattle.command_input.specs.declared.reason.Reason.{Reason}
+use Rattle.command_input.specs.declared.refusal.Refusal.{Refusal}
 use Rattle.command_input.specs.declared.fault.InputFault.{InputFault}
 use Rattle.command_input.specs.declared.fault.InputFault.TheVariants.{Refused, ReadFault, TooLong, NoMemory}
 use Rattle.command_input.specs.declared.status.Status.{Status}

@@ -1,3 +1,7 @@
+pub mod Words
+pub mod Escaped
+pub mod Refusal
+pub mod Line
 pub mod Lines
 pub mod Faults
 pub mod Input

@@ -1,8 +1,8 @@
 -- What is told on standard error.
 use Rattle.std.specs.Prelude.{ℕ, List, [], ◌∷◌, codes}
 use Rattle.swap_base.specs.Text.{joined}
-use Rattle.refusals.specs.declared.reason.Reason.{Reason}
-use Rattle.refusals.specs.Line.{refusal_line_text}
+use Rattle.command_input.specs.declared.reason.Reason.{Reason}
+use Rattle.command_input.specs.Line.{refusal_line_text}
 use Rattle.command_input.specs.declared.exit.Told.{Told}
 use Rattle.command_input.specs.declared.exit.Told.TheVariants.{Words, Line}
 

@@ -3,7 +3,8 @@
 ghost use Rattle.std.specs.Prelude.{◌≡◌, IfOk};
 ghost use Rattle.command_input.specs.StandardError.{refusal_text, told_text};
 
-use refusals::{Reason, refusal_line};
+use crate::line::refusal_line;
+use crate::reason::Reason;
 use std::alloc::Global;
 use swap_base::{ByteText, NoMemory};
 

@@ -3,7 +3,8 @@
 ghost use Rattle.std.specs.Prelude.{◌≡◌, []};
 ghost use Rattle.command_input.specs.Faults.{named_fault};
 
-use refusals::{Reason, Refusal, nameless};
+use crate::reason::Reason;
+use crate::refusal::{Refusal, nameless};
 use std::alloc::Global;
 use swap_base::{ByteText, Fault, Listed, NoMemory};
 use swap_io::{DrainFault, LineFault};

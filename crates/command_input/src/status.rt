@@ -5,7 +5,8 @@ ghost use Rattle.command_input.specs.Faults.{unread};
 ghost use Rattle.command_input.specs.Written.{written_status};
 
 use crate::fault::InputFault;
-use refusals::{Reason, Refusal};
+use crate::reason::Reason;
+use crate::refusal::Refusal;
 use swap_base::{ByteText, Listed};
 use swap_io::TextFault;
 

@@ -10,8 +10,8 @@ use Rattle.hashkey_path.specs.Hashkey.{same_key}
 use Rattle.ledger_core.specs.Book.{Histories}
 use Rattle.swap_rules.specs.Party.{unlock_hashkey}
 use Rattle.swap_rules.specs.Conduct.{carries, is_first_key}
-use Rattle.sent_keys.specs.Sent.{shown, party_unlocks}
-use Rattle.sent_keys.proofs.Unlocks.{OfUnlocks, any_sent}
+use Rattle.conduct_check.specs.Sent.{shown, party_unlocks}
+use Rattle.conduct_check.proofs.Unlocks.{OfUnlocks, any_sent}
 use Rattle.conduct_check.specs.CallConduct.{has_made_parts, has_sent}
 
 by_lock : (b : Bool) (sent key : Hashkey) → (sent.lock == key.lock) ≡ b → is_first_key (cond b (Some sent) None) key ≡ same_key sent key

@@ -29,9 +29,9 @@ use Rattle.swap_rules.specs.Conduct.{keeps, keeps_entry}
 use Rattle.swap_rules.specs.Forged.{forges, is_forged}
 use Rattle.swap_rules.specs.Findings.{failing}
 use Rattle.conduct_check.specs.CallConduct.{HasDealLock}
-use Rattle.sent_keys.proofs.OwnArcs.{unsent}
-use Rattle.sent_keys.proofs.Unlocks.{sent_of_tick}
-use Rattle.conduct_check.proofs.Asked.{accepted_of_tick, made_fails}
+use Rattle.conduct_check.proofs.OwnArcs.{unsent}
+use Rattle.conduct_check.proofs.Unlocks.{sent_of_tick}
+use Rattle.conduct_check.proofs.AskedConduct.{accepted_of_tick, made_fails}
 
 pub legal_of : (d : Deal) (b : Histories) (a : ℕ) → IsLegalBook d b → a < length d.graph.arcs → IsLegal d a (history b a)
 legal_of d b a l lt = let n = l.one_each in l.legal a (omega arith)

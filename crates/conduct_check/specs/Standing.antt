@@ -9,8 +9,8 @@ use Rattle.ledger_core.specs.Book.{Histories}
 use Rattle.swap_digraph.specs.Deal.{lock_hashlock}
 use Rattle.swap_rules.specs.Party.{first_key, is_ready, leads_one}
 use Rattle.swap_rules.specs.Conduct.{has_origin}
-use Rattle.sent_keys.specs.declared.judged.Judged.{Judged}
-use Rattle.sent_keys.specs.Judged.{judged_book}
+use Rattle.conduct_check.specs.declared.judged.Judged.{Judged}
+use Rattle.conduct_check.specs.Judged.{judged_book}
 use Rattle.conduct_check.specs.declared.standing.Standing.{Standing}
 
 -- whether the accepted unlock is with the hashkey

@@ -5,10 +5,13 @@ ghost use Rattle.ledger_core.specs.Book.{history};
 ghost use Rattle.swap_rules.specs.Party.{pick_call};
 ghost use Rattle.swap_rules.specs.Conduct.{is_publish, keeps};
 ghost use Rattle.history_index.specs.Indexes.{all_entries};
-ghost use Rattle.sent_keys.specs.Judged.{judged_book, IsJudged};
+ghost use Rattle.conduct_check.specs.Judged.{judged_book, IsJudged};
 ghost use Rattle.conduct_check.specs.Standing.{IsStanding};
 ghost use Rattle.conduct_check.specs.CallConduct.{is_first, is_good_key, is_arc_key_valid, keeps_call, keeps_made, HasDealLock};
 
+use crate::calls::pick_call;
+use crate::judged::Judged;
+use crate::keys::{first_key, is_first_key};
 use crate::past::{had_expired, made_calls, was_published, was_triggered};
 use crate::standing::Standing;
 use crate::validity::is_valid;
@@ -16,7 +19,6 @@ use escrow_core::{Terms, stated_terms};
 use hashkey_path::Hashkey;
 use history_index::{Index, Made};
 use ledger_core::Call;
-use sent_keys::{Judged, first_key, is_first_key, pick_call};
 use swap_base::{ArcId, PartyId};
 
 fn is_publish(call: Option<&Call>) -> bool

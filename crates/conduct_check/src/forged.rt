@@ -3,14 +3,16 @@
 ghost use Rattle.std.specs.Prelude.{◌≡◌, ◌<◌, length};
 ghost use Rattle.ledger_core.specs.History.{accepted};
 ghost use Rattle.swap_rules.specs.Forged.{has_forged_suffix, is_forged};
-ghost use Rattle.sent_keys.specs.Judged.{judged_book, IsJudged};
+ghost use Rattle.conduct_check.specs.Judged.{judged_book, IsJudged};
 ghost use Rattle.conduct_check.specs.CallConduct.{has_made_parts, has_sent, is_forged_secret, HasDealLock};
 
+use crate::calls::accepted;
+use crate::judged::Judged;
+use crate::keys::has_parts;
 use due_calls::leads;
 use hash_signature::{Sig, hashed_value};
 use hashkey_path::Hashkey;
 use ledger_core::{Call, Entry};
-use sent_keys::{Judged, accepted, has_parts};
 use swap_base::{Digest, LockId, PartyId};
 use swap_digraph::Mode;
 

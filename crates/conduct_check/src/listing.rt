@@ -3,16 +3,16 @@
 ghost use Rattle.std.specs.Prelude.{◌≡◌, ◌<◌, ◌++◌, ◌∷◌, [], OnOk, OnErr, length, if◌then◌else◌};
 ghost use Rattle.ledger_core.specs.Book.{IsLegalBook};
 ghost use Rattle.swap_rules.specs.Findings.{broken, forgeries};
-ghost use Rattle.sent_keys.specs.Judged.{judged_book, IsJudged};
+ghost use Rattle.conduct_check.specs.Judged.{judged_book, IsJudged};
 ghost use Rattle.conduct_check.specs.Standing.{IsStanding};
 ghost use Rattle.conduct_check.specs.CallConduct.{arc_broken_findings, arc_forged_findings};
 
 use crate::conduct::keeps_entry;
 use crate::forged::is_forged;
+use crate::judged::Judged;
 use crate::past::made_calls;
 use crate::standing::{Standing, party_standing};
 use ledger_core::is_adjacent;
-use sent_keys::Judged;
 use swap_base::{ArcId, NoMemory};
 use swap_rules::Finding;
 
@@ -53,7 +53,7 @@ fn put_broken_arc(
 
 /// Adds where the party broke a rule of conduct, by arc and entry. After want of memory a part
 /// stands there.
-#[tactic(auto, using(sent_keys::proofs::Loops::flat_more))]
+#[tactic(auto, using(crate::proofs::KeyLoops::flat_more))]
 fn put_broken_arcs(out: &mut Vec<Finding>, judged: &Judged<'_>) -> Result<(), NoMemory>
     requires judged { IsJudged judged.now }
     requires legal { IsLegalBook judged.now.deal.now (judged_book judged.now) }
@@ -97,7 +97,7 @@ fn put_forged_arc(out: &mut Vec<Finding>, judged: &Judged<'_>, arc: ArcId) -> Re
 
 /// Adds where an entry is forged in the party's name, by arc and entry. After want of memory a part
 /// stands there.
-#[tactic(auto, using(sent_keys::proofs::Loops::flat_more))]
+#[tactic(auto, using(crate::proofs::KeyLoops::flat_more))]
 fn put_forged_arcs(out: &mut Vec<Finding>, judged: &Judged<'_>) -> Result<(), NoMemory>
     requires judged { IsJudged judged.now }
     requires legal { IsLegalBook judged.now.deal.now (judged_book judged.now) }

@@ -6,14 +6,16 @@ ghost use Rattle.ledger_core.specs.Book.{history};
 ghost use Rattle.ledger_core.specs.History.{accepted};
 ghost use Rattle.swap_rules.specs.Conduct.{carries, extends_without_party, has_origin, has_seen, is_alone};
 ghost use Rattle.history_index.specs.Indexes.{all_entries};
-ghost use Rattle.sent_keys.specs.Judged.{judged_book, IsJudged};
+ghost use Rattle.conduct_check.specs.Judged.{judged_book, IsJudged};
 
+use crate::calls::accepted;
+use crate::extending::extends_without_party;
+use crate::judged::Judged;
 use crate::past::made_calls;
 use due_calls::leads;
 use hashkey_path::Hashkey;
 use history_index::{Index, Made};
 use ledger_core::Call;
-use sent_keys::{Judged, accepted, extends_without_party};
 use swap_base::{ArcId, Digest, PartyId};
 use swap_digraph::Mode;
 

@@ -8,12 +8,12 @@ ghost use Rattle.history_index.specs.Indexes.{all_entries};
 ghost use Rattle.history_index.specs.Made.{history_calls};
 ghost use Rattle.history_index.specs.Numbers.{comes_earlier, published_number};
 ghost use Rattle.ledger_core.specs.Facts.{opened_number};
-ghost use Rattle.sent_keys.specs.Judged.{judged_book, IsJudged};
+ghost use Rattle.conduct_check.specs.Judged.{judged_book, IsJudged};
 
+use crate::judged::Judged;
 use due_calls::expiry;
 use history_index::{Index, Made};
 use ledger_core::Facts;
-use sent_keys::Judged;
 use swap_base::{ArcId, LockId};
 
 /// The calls on the arc, with their numbers.

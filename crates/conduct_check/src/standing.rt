@@ -2,13 +2,14 @@
 
 ghost use Rattle.std.specs.Prelude.{◌≡◌, ◌<◌, ℕ, length, slice_index_or, false};
 ghost use Rattle.ledger_core.specs.Book.{IsLegalBook};
-ghost use Rattle.sent_keys.specs.Judged.{judged_book, IsJudged};
+ghost use Rattle.conduct_check.specs.Judged.{judged_book, IsJudged};
 ghost use Rattle.conduct_check.specs.Standing.{first_origin, first_valid, IsStanding};
 
+use crate::judged::Judged;
+use crate::keys::first_key;
 use crate::origin::has_origin;
 use crate::validity::is_valid_entering;
 use due_calls::{is_ready, leads_one};
-use sent_keys::{Judged, first_key};
 use swap_base::LockId;
 
 /// What is read of a party: whether it leads a lock, whether it is ready, and by lock whether its

@@ -8,12 +8,13 @@ ghost use Rattle.hashkey_path.specs.Hashkey.{is_valid};
 ghost use Rattle.hashkey_path.specs.LastSignatures.{is_last_signed};
 ghost use Rattle.ledger_core.specs.Book.{history, IsLegalBook};
 ghost use Rattle.ledger_core.specs.History.{opened};
-ghost use Rattle.sent_keys.specs.Judged.{judged_book, IsJudged};
+ghost use Rattle.conduct_check.specs.Judged.{judged_book, IsJudged};
 ghost use Rattle.conduct_check.specs.Standing.{key_opens_arc, is_valid_on_first_arc};
 
+use crate::judged::Judged;
+use crate::keys::same_key;
 use crate::origin::has_seen_inner;
 use hashkey_path::{Hashkey, HashkeyAnswer, check};
-use sent_keys::{Judged, same_key};
 use swap_base::ArcId;
 use swap_digraph::Deal;
 

@@ -7,7 +7,7 @@ use Rattle.swap_rules.specs.Accepted.{IsAccepted}
 use Rattle.swap_job.specs.declared.event.Event.{Event}
 use Rattle.swap_job.specs.declared.job.Job.{Job}
 use Rattle.swap_job.specs.declared.job.Purpose.TheVariants.{Make}
-use Rattle.refusals.specs.declared.reason.Reason.{Reason}
+use Rattle.command_input.specs.declared.reason.Reason.{Reason}
 use Rattle.command_input.specs.Lines.{collect_lines, filled_lines}
 use Rattle.swap_offer.specs.Job.{counted, job_of_lines}
 use Rattle.swap_gen.specs.Made.{made}

@@ -2,7 +2,7 @@
 
 ghost use Rattle.std.specs.Prelude.{◌≡◌, ◌≤◌, IfOk, OnOk, OnErr};
 ghost use Rattle.swap_base.specs.Fault.{Gives};
-ghost use Rattle.proposed_deal.specs.Proposed.{HaveSeeds, IsProposed};
+ghost use Rattle.swap_offer.specs.Proposed.{HaveSeeds, IsProposed};
 ghost use Rattle.offer_header.specs.Names.{AreNames};
 ghost use Rattle.swap_offer.specs.Job.{IsWholeJob};
 ghost use Rattle.swap_offer.specs.Wallets.{HaveScripts};
@@ -10,7 +10,7 @@ ghost use Rattle.swap_gen.specs.Made.{made};
 ghost use Rattle.made_jobs.specs.Making.{line_step, written_line, IsMade};
 
 use crate::header::put_header;
-use refusals::OfferFault;
+use command_input::OfferFault;
 use std::alloc::Global;
 use swap_base::{NoMemory, Piece, put};
 use swap_gen::make;

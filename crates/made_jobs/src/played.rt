@@ -16,13 +16,13 @@ ghost use Rattle.swap_gen.specs.Events.{generated_events};
 ghost use Rattle.swap_gen.specs.Owned.{inside_wallets, OwnsKeys};
 ghost use Rattle.made_jobs.specs.Generating.{generated_book, IsJobWorld, HasDrawnEvents};
 
-use deviators::Kit;
 use ledger_core::Book;
 use party_wallet::Wallet;
 use std::alloc::Global;
 use swap_base::NoMemory;
 use swap_gen::Generator;
 use swap_job::Job;
+use swap_run::Kit;
 use swap_world::World;
 
 /// The world of a job whose parties own its keys, before any event.

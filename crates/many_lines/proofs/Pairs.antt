@@ -2,7 +2,7 @@
 use Rattle.std.proofs.Common.{◌≡◌, ◌<◌, ◌≤◌, ℕ, zero, suc, List, [], ◌∷◌, ◌++◌, Result, Ok, refl, sym, arith, ◌∙◌}
 use Rattle.std.specs.List.{All}
 use Rattle.std.proofs.lemmas.List.Elements.{All-append}
-use Rattle.transcript_lines.specs.declared.said.Misspelling.{Misspelling}
+use Rattle.transcript_book.specs.declared.said.Misspelling.{Misspelling}
 use Rattle.many_lines.specs.Fields.{account_added, further_accounts, most_units}
 use Rattle.many_lines.specs.Below.{AreChainsBelow, AreLowUnits}
 use Rattle.many_lines.specs.declared.accounts.ChainAccounts.{ChainAccounts}

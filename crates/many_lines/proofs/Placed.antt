@@ -6,7 +6,7 @@ use Rattle.std.specs.List.{All}
 use Rattle.std.specs.Prelude.{slice_index_or}
 use Rattle.std.specs.Str.{bytes_eq}
 use Rattle.swap_base.specs.Fault.{◌>>=◌}
-use Rattle.offer_fields.proofs.Chains.{went}
+use Rattle.offer_moves.proofs.Chains.{went}
 use Rattle.swap_job.specs.declared.job.Job.{Job}
 use Rattle.swap_many.specs.Chains.{nowhere}
 use Rattle.swap_many.specs.Opening.{IsChainPlace}

@@ -7,13 +7,13 @@ use Rattle.swap_base.specs.declared.fault.Fault.TheVariants.{NoMemory, Refused}
 use Rattle.swap_job.specs.declared.job.Job.{Job}
 use Rattle.swap_job.specs.declared.event.Event.{Event}
 use Rattle.swap_job.specs.declared.event.Event.TheVariants as events
-use Rattle.refusals.specs.declared.reason.Reason.{Reason}
-use Rattle.refusals.specs.declared.reason.Reason.TheVariants.{NotConforming, OverLimit}
-use Rattle.refusals.specs.declared.refusal.Refusal.{Refusal}
-use Rattle.refusals.specs.Refusal.{refusal}
+use Rattle.command_input.specs.declared.reason.Reason.{Reason}
+use Rattle.command_input.specs.declared.reason.Reason.TheVariants.{NotConforming, OverLimit}
+use Rattle.command_input.specs.declared.refusal.Refusal.{Refusal}
+use Rattle.command_input.specs.Refusal.{refusal}
 use Rattle.offer_events.specs.Event.{parse_event}
-use Rattle.transcript_lines.specs.Between.{separated_parts}
-use Rattle.transcript_lines.specs.Reading.{is_word, bounded_number}
+use Rattle.transcript_book.specs.Between.{separated_parts}
+use Rattle.transcript_book.specs.Reading.{is_word, bounded_number}
 use Rattle.many_lines.specs.Fields.{parse_payment_fields, parse_sweep_fields, parse_chain_tick}
 use Rattle.swap_many.specs.declared.many_event.ManyEvent.{ManyEvent}
 use Rattle.swap_many.specs.declared.many_event.ManyEvent.TheVariants.{Tick, In, Pay, Sweep}

@@ -7,8 +7,8 @@ use Rattle.swap_base.specs.Fault.{◌>>=◌}
 use Rattle.swap_job.specs.declared.job.Finish.{Finish}
 use Rattle.swap_job.specs.declared.job.Finish.TheVariants.{Stop, Fair}
 use Rattle.offer_header.specs.Names.{is_name}
-use Rattle.transcript_lines.specs.declared.said.Misspelling.{Misspelling}
-use Rattle.transcript_lines.specs.Reading.{parse_each_word, parse_first_field, is_word, misspelt, nothing_more, bounded_number}
+use Rattle.transcript_book.specs.declared.said.Misspelling.{Misspelling}
+use Rattle.transcript_book.specs.Reading.{parse_each_word, parse_first_field, is_word, misspelt, nothing_more, bounded_number}
 use Rattle.many_lines.specs.declared.accounts.ChainAccounts.{ChainAccounts}
 use Rattle.many_lines.specs.declared.payment.Payment.{Payment}
 

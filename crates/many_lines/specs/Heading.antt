@@ -8,14 +8,14 @@ use Rattle.swap_base.specs.declared.fault.Fault.TheVariants.{Refused, NoMemory}
 use Rattle.swap_job.specs.declared.job.Job.{Job}
 use Rattle.swap_job.specs.declared.job.Finish.{Finish}
 use Rattle.swap_job.specs.declared.job.Purpose.TheVariants.{Run}
-use Rattle.refusals.specs.declared.reason.Reason.{Reason}
-use Rattle.refusals.specs.declared.reason.Reason.TheVariants.{BadLine, CutShort}
-use Rattle.refusals.specs.declared.refusal.Refusal.{Refusal}
-use Rattle.refusals.specs.Refusal.{fault_with_names, named_result, refusal}
-use Rattle.offer_fields.specs.Fields.{parse_data}
-use Rattle.transcript_lines.specs.declared.said.Misspelling.{Misspelling}
-use Rattle.transcript_lines.specs.Between.{separated_parts}
-use Rattle.transcript_lines.specs.Reading.{is_word}
+use Rattle.command_input.specs.declared.reason.Reason.{Reason}
+use Rattle.command_input.specs.declared.reason.Reason.TheVariants.{BadLine, CutShort}
+use Rattle.command_input.specs.declared.refusal.Refusal.{Refusal}
+use Rattle.command_input.specs.Refusal.{fault_with_names, named_result, refusal}
+use Rattle.offer_moves.specs.Fields.{parse_data}
+use Rattle.transcript_book.specs.declared.said.Misspelling.{Misspelling}
+use Rattle.transcript_book.specs.Between.{separated_parts}
+use Rattle.transcript_book.specs.Reading.{is_word}
 use Rattle.swap_offer.specs.Job.{parse_header_job, header_names}
 use Rattle.many_lines.specs.Fields.{history_accounts, parse_chain_list, parse_finish_fields}
 use Rattle.many_lines.specs.declared.accounts.ChainAccounts.{ChainAccounts}

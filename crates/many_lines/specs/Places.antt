@@ -6,10 +6,10 @@ use Rattle.swap_digraph.specs.Graph.{ends}
 use Rattle.swap_job.specs.declared.job.Job.{Job}
 use Rattle.swap_job.specs.declared.job.Finish.TheVariants.{Stop}
 use Rattle.swap_job.specs.declared.job.Purpose.TheVariants.{Run}
-use Rattle.refusals.specs.declared.reason.Reason.TheVariants.{NoAccount}
-use Rattle.refusals.specs.declared.refusal.Refusal.{Refusal}
-use Rattle.refusals.specs.Refusal.{refusal}
-use Rattle.refusals.specs.Words.{party_name}
+use Rattle.command_input.specs.declared.reason.Reason.TheVariants.{NoAccount}
+use Rattle.command_input.specs.declared.refusal.Refusal.{Refusal}
+use Rattle.command_input.specs.Refusal.{refusal}
+use Rattle.command_input.specs.Words.{party_name}
 use Rattle.swap_digraph.specs.Deal.{no_deal}
 use Rattle.swap_many.specs.declared.place.Place.{Place}
 use Rattle.many_lines.specs.declared.many_job.ManyJob.{ManyJob}

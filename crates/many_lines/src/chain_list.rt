@@ -3,7 +3,7 @@
 ghost use Rattle.std.specs.Prelude.{◌≤◌, IfOk};
 ghost use Rattle.swap_base.specs.Fault.{Gives};
 ghost use Rattle.transcript_book.specs.Taking.{Takes};
-ghost use Rattle.transcript_lines.specs.Reading.{parse_first_field};
+ghost use Rattle.transcript_book.specs.Reading.{parse_first_field};
 ghost use Rattle.many_lines.specs.Fields.{parse_chain_list, parse_finish_fields, parse_finish_word};
 ghost use Rattle.many_lines.specs.Below.{AreChainsBelow};
 
@@ -42,7 +42,7 @@ fn parse_finish_word(word: &[u8]) -> Result<Finish, WordFault>
     }
 }
 
-#[tactic(auto, unfolding(transcript_lines::specs::Reading::parse_first_field))]
+#[tactic(auto, unfolding(transcript_book::specs::Reading::parse_first_field))]
 fn finish_field(fields: &mut Parts<'_>) -> Result<Finish, WordFault>
     ensures { Takes (λ f. f) result fields.new (parse_first_field parse_finish_word fields.old) }
 {

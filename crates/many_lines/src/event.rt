@@ -13,7 +13,7 @@ ghost use Rattle.many_lines.specs.Whole.{AreBoundedChains, AreSwaps};
 use crate::fault::{bad, nameless};
 use crate::many_job::ManyJob;
 use crate::said::{parse_swap, parse_sweep, parse_tick, read_chain_payment};
-use refusals::{HeaderFault, OfferFault, Reason, over_limit, with_names};
+use command_input::{HeaderFault, OfferFault, Reason, over_limit, with_names};
 use std::alloc::Global;
 use swap_base::{ByteText, Fault, Listed, NoMemory, TryCopy};
 use swap_job::{Event, Job, Purpose};

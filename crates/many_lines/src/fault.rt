@@ -1,10 +1,10 @@
 //! What is said against a line.
 
 ghost use Rattle.std.specs.Prelude.{◌≡◌, []};
-ghost use Rattle.refusals.specs.Refusal.{fault_with_names};
+ghost use Rattle.command_input.specs.Refusal.{fault_with_names};
 ghost use Rattle.many_lines.specs.Heading.{bad_many_line, by_field};
 
-use refusals::{HeaderFault, OfferFault, Reason, Refusal, with_names};
+use command_input::{HeaderFault, OfferFault, Reason, Refusal, with_names};
 use std::alloc::Global;
 use swap_base::{Fault, Listed};
 use transcript_book::WordFault;

@@ -3,7 +3,7 @@
 ghost use Rattle.std.specs.Prelude.{◌≡◌, ◌<◌, ◌≤◌, [], ℕ, length, slice_index_or, IfOk};
 ghost use Rattle.swap_base.specs.Fault.{Gives};
 ghost use Rattle.transcript_book.specs.Taking.{Takes};
-ghost use Rattle.transcript_lines.specs.Reading.{parse_first_field};
+ghost use Rattle.transcript_book.specs.Reading.{parse_first_field};
 ghost use Rattle.many_lines.specs.Fields.{read_account, parse_heights, parse_payment_fields, parse_payment, parse_sweep_fields, parse_chain_tick, parse_units};
 
 use crate::number::parse_units;
@@ -33,7 +33,7 @@ fn parse_heights(word: &[u8]) -> Result<u32, WordFault>
     Ok(n as u32)
 }
 
-#[tactic(auto, unfolding(transcript_lines::specs::Reading::parse_first_field))]
+#[tactic(auto, unfolding(transcript_book::specs::Reading::parse_first_field))]
 fn heights_field(fields: &mut Parts<'_>) -> Result<u32, WordFault>
     ensures exact { Takes (λ n. n) result fields.new (parse_first_field parse_heights fields.old) }
     ensures some { IfOk result (λ n. 1 ≤ n) }
@@ -69,7 +69,7 @@ fn read_account(names: &[ByteText], name: &[u8]) -> Result<u8, WordFault>
     }
 }
 
-#[tactic(auto, unfolding(transcript_lines::specs::Reading::parse_first_field))]
+#[tactic(auto, unfolding(transcript_book::specs::Reading::parse_first_field))]
 fn account_field(names: &[ByteText], fields: &mut Parts<'_>) -> Result<u8, WordFault>
     requires { length names.now ≤ 256 }
     ensures exact { Takes (λ x. x) result fields.new (parse_first_field (read_account names.now) fields.old) }
@@ -78,7 +78,7 @@ fn account_field(names: &[ByteText], fields: &mut Parts<'_>) -> Result<u8, WordF
     read_account(names, word(fields)?)
 }
 
-#[tactic(auto, unfolding(transcript_lines::specs::Reading::parse_first_field))]
+#[tactic(auto, unfolding(transcript_book::specs::Reading::parse_first_field))]
 fn units_field(fields: &mut Parts<'_>) -> Result<u64, WordFault>
     ensures { Takes (λ n. n) result fields.new (parse_first_field parse_units fields.old) }
 {

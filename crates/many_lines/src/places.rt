@@ -3,13 +3,13 @@
 ghost use Rattle.std.specs.Prelude.{◌≡◌, ◌<◌, ◌≤◌, [], ℕ, length, slice_index_or, IfOk, IfSome};
 ghost use Rattle.swap_base.specs.Fault.{Gives};
 ghost use Rattle.swap_digraph.specs.Graph.{ends};
-ghost use Rattle.refusals.specs.Words.{party_name};
+ghost use Rattle.command_input.specs.Words.{party_name};
 ghost use Rattle.swap_offer.specs.Job.{IsWholeJob};
 ghost use Rattle.many_lines.specs.Places.{find_account, arc_places, make_place, find_place, arc_place, find_places};
 ghost use Rattle.many_lines.specs.Whole.{AreBoundedChains, ArePlaced, AreSwaps};
 
 use crate::many_job::ManyJob;
-use refusals::{HeaderFault, Reason, Refusal, party_name};
+use command_input::{HeaderFault, Reason, Refusal, party_name};
 use std::alloc::Global;
 use swap_base::{ArcId, ByteText, Fault, Listed};
 use swap_job::Job;

@@ -2,7 +2,7 @@
 
 ghost use Rattle.std.specs.Prelude.{◌<◌, ◌≤◌, [], ℕ, length, slice_index_or, IfOk};
 ghost use Rattle.swap_base.specs.Fault.{Gives};
-ghost use Rattle.transcript_lines.specs.Reading.{bounded_number};
+ghost use Rattle.transcript_book.specs.Reading.{bounded_number};
 ghost use Rattle.many_lines.specs.Fields.{history_accounts, parse_chain_list, parse_finish_fields, parse_payment_fields, parse_sweep_fields, parse_chain_tick};
 ghost use Rattle.many_lines.specs.Below.{AreChainsBelow, IsBoundedChain};
 ghost use Rattle.many_lines.specs.Heading.{by_fields};
@@ -11,7 +11,7 @@ use crate::accounts::{ChainAccounts, read_accounts};
 use crate::chain_list::{read_chains, read_finish};
 use crate::fault::by_field;
 use crate::payment::{Payment, read_payment, read_sweep, read_tick};
-use refusals::HeaderFault;
+use command_input::HeaderFault;
 use std::alloc::Global;
 use swap_base::{ByteText, Listed};
 use swap_job::Finish;

@@ -10,8 +10,8 @@ ghost use Rattle.swap_offer.specs.Wallets.{HaveRequiredScripts, HaveRequiredSeed
 ghost use Rattle.many_lines.specs.Heading.{swap_job, tells_finish, without_finish};
 
 use crate::fault::{bad, nameless};
-use offer_fields::parse_object;
-use refusals::{HeaderFault, OfferFault};
+use command_input::{HeaderFault, OfferFault};
+use offer_moves::parse_object;
 use std::alloc::Global;
 use swap_base::ByteText;
 use swap_job::Purpose;
@@ -27,7 +27,7 @@ fn tells_finish(alloc: Global, line: u32, text: &[u8]) -> Result<bool, OfferFaul
 }
 
 /// A header states no finish, since all swaps have one finish.
-#[tactic(auto, using(refusals::proofs::Named::fails), unfolding(crate::specs::Heading::without_finish))]
+#[tactic(auto, using(command_input::proofs::Named::fails), unfolding(crate::specs::Heading::without_finish))]
 fn without_finish(alloc: Global, line: u32, text: &[u8]) -> Result<(), HeaderFault>
     ensures { Gives (λ u. u) result (without_finish line text.now) }
 {

@@ -5,7 +5,7 @@ use Rattle.swap_base.specs.Text.{lines}
 use Rattle.ledger_core.specs.Book.{Histories}
 use Rattle.swap_job.specs.declared.job.Job.{Job}
 use Rattle.outcome_rules.specs.declared.report.Report.{Report}
-use Rattle.report_text.specs.Report.{count_line, report}
+use Rattle.run_texts.specs.Report.{count_line, report}
 use Rattle.swap_many.specs.Kept.{Kept}
 use Rattle.many_text.specs.ManyText.{kept_chain_text, finding_count, kept_report, many_text, swap_book, swap_line, swap_text, kept_swap_text}
 

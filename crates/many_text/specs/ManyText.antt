@@ -5,7 +5,7 @@ use Rattle.ledger_core.specs.Book.{Histories}
 use Rattle.swap_job.specs.declared.job.Job.{Job}
 use Rattle.outcome_rules.specs.declared.report.Report.{Report}
 use Rattle.outcome_rules.specs.Report.{build_report}
-use Rattle.report_text.specs.Report.{count_line, report}
+use Rattle.run_texts.specs.Report.{count_line, report}
 use Rattle.swap_many.specs.Chains.{Units}
 use Rattle.swap_many.specs.Kept.{Kept}
 

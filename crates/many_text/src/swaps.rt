@@ -12,7 +12,7 @@ ghost use Rattle.many_text.specs.Shown.{AreShown, IsShownSwap};
 
 use ledger_core::Book;
 use outcome_rules::{Report, build_report};
-use report_text::hand_report;
+use run_texts::hand_report;
 use std::alloc::Global;
 use swap_base::{NoMemory, Piece, put};
 use swap_io::{Sink, TextFault};

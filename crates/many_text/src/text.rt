@@ -10,7 +10,7 @@ ghost use Rattle.many_text.specs.Shown.{AreChainsShown, AreShown};
 
 use crate::chains::put_chains;
 use crate::swaps::write_swaps;
-use report_text::put_count;
+use run_texts::put_count;
 use std::alloc::Global;
 use swap_base::{ByteText, Listed};
 use swap_io::{Sink, TextFault, flush};

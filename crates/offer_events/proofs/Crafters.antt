@@ -4,8 +4,8 @@ use Rattle.std.proofs.Common.{slice_index_or, None, is_some, Ok, Err, refl, sym,
 use Rattle.std.specs.Prelude.{Result}
 use Rattle.std.proofs.lemmas.List.{length-drop, nil_from_length}
 use Rattle.swap_job.specs.Crafted.{Seeds}
-use Rattle.refusals.specs.declared.reason.Reason.{Reason}
-use Rattle.refusals.specs.declared.reason.Reason.TheVariants.{NoSeed}
+use Rattle.command_input.specs.declared.reason.Reason.{Reason}
+use Rattle.command_input.specs.declared.reason.Reason.TheVariants.{NoSeed}
 use Rattle.offer_events.specs.Event.{each_seeded}
 
 -- the seed of the party in a place

@@ -16,9 +16,9 @@ use Rattle.swap_job.specs.Crafted.{Seeds}
 use Rattle.swap_job.specs.Fitting.{IsFitting}
 use Rattle.swap_job.specs.Resolved.{move_arc}
 use Rattle.swap_job.specs.Step.{CanStep, IsJobEvent}
-use Rattle.refusals.specs.declared.reason.Reason.TheVariants.{NoSeed, NotConforming}
-use Rattle.offer_fields.specs.Limits.{ranged_number}
-use Rattle.offer_fields.specs.Names.{party_of_name}
+use Rattle.command_input.specs.declared.reason.Reason.TheVariants.{NoSeed, NotConforming}
+use Rattle.offer_moves.specs.FieldLimits.{ranged_number}
+use Rattle.offer_moves.specs.Names.{party_of_name}
 use Rattle.offer_moves.specs.declared.raw.RawMove.{RawMove}
 use Rattle.offer_moves.specs.Moves.{deal_sizes, parse_arc, parse_move}
 use Rattle.offer_moves.specs.Placed.{deviating, adjacent, placed}
@@ -28,8 +28,8 @@ use Rattle.offer_events.specs.declared.raw.RawEvent.{RawEvent}
 use Rattle.offer_events.specs.declared.raw.RawEvent.TheVariants as raw_events
 use Rattle.offer_events.specs.Event.{event_of_tick, event_of_look, event_of_act, permitted, event_of_call, event_of_crash, checked_event}
 use Rattle.offer_events.specs.Event.{each_seeded, needs_seeds, crafted_with_seeds, conforming_crash}
-use Rattle.offer_fields.proofs.Chains.{went}
-use Rattle.offer_fields.proofs.Ranges.{number_within_ok, party_below}
+use Rattle.offer_moves.proofs.Chains.{went}
+use Rattle.offer_moves.proofs.Ranges.{number_within_ok, party_below}
 
 all_seeded : (seeds : Seeds) (vs : List ℕ) (u : Unit {0}) → each_seeded seeds vs ≡ Ok u → list_all (λ v. is_some (slice_index_or seeds v None)) vs ≡ true
 all_seeded seeds [] u e = refl

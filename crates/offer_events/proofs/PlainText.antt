@@ -20,7 +20,7 @@ use Rattle.serde_json.specs.Data.{unsigned, number, string, object, Members, no_
 use Rattle.serde_json.specs.Read.{read, of_json, max_depth}
 use Rattle.serde_json.proofs.Numbers.{number_of-decimal}
 use Rattle.swap_job.specs.declared.job.Job.{Job}
-use Rattle.offer_fields.specs.Fields.{parse_data, needed, field_number, field_text, optional_field_number, only}
+use Rattle.offer_moves.specs.Fields.{parse_data, needed, field_number, field_text, optional_field_number, only}
 use Rattle.offer_events.specs.declared.raw.RawEvent.{RawEvent}
 use Rattle.offer_events.specs.declared.raw.RawEvent.TheVariants.{Tick, Look, Act}
 use Rattle.offer_events.specs.Reading.{raw_event, raw_tick_event, raw_look_event, raw_act_event}

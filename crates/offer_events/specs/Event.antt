@@ -11,11 +11,11 @@ use Rattle.swap_job.specs.declared.moves.Move.TheVariants.{Craft}
 use Rattle.swap_job.specs.Crafted.{Seeds}
 use Rattle.swap_job.specs.declared.event.Event.{Event}
 use Rattle.swap_job.specs.declared.event.Event.TheVariants.{Tick, Look, Act, Call, Crash}
-use Rattle.refusals.specs.declared.reason.Reason.{Reason}
-use Rattle.refusals.specs.declared.reason.Reason.TheVariants.{NoSeed, EventInRace, NotConforming}
-use Rattle.offer_fields.specs.Fields.{parse_data}
-use Rattle.offer_fields.specs.Limits.{ranged_number}
-use Rattle.offer_fields.specs.Names.{party_of_name}
+use Rattle.command_input.specs.declared.reason.Reason.{Reason}
+use Rattle.command_input.specs.declared.reason.Reason.TheVariants.{NoSeed, EventInRace, NotConforming}
+use Rattle.offer_moves.specs.Fields.{parse_data}
+use Rattle.offer_moves.specs.FieldLimits.{ranged_number}
+use Rattle.offer_moves.specs.Names.{party_of_name}
 use Rattle.offer_moves.specs.declared.raw.RawMove.{RawMove}
 use Rattle.offer_moves.specs.Moves.{deal_sizes, parse_arc, parse_move}
 use Rattle.offer_moves.specs.Placed.{deviating, adjacent, placed}

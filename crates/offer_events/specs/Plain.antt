@@ -1,7 +1,7 @@
 -- Lines in a plain form: no blanks, numbers in decimal, and names that need no escape.
 use Rattle.std.specs.Prelude.{◌≡◌, ◌&&◌, ◌==◌, ℕ, Bool, not, nat_le, List, Ok}
 use Rattle.serde_json.specs.Data.{Data}
-use Rattle.offer_fields.specs.Fields.{parse_data}
+use Rattle.offer_moves.specs.Fields.{parse_data}
 use Rattle.offer_events.specs.declared.raw.RawEvent.{RawEvent}
 use Rattle.offer_events.specs.Reading.{raw_event}
 

@@ -4,9 +4,9 @@ use Rattle.std.specs.Prelude.{ℕ, [], ◌∷◌, false, codes, if◌then◌else
 use Rattle.serde_json.specs.Data.{Data}
 use Rattle.serde_json.specs.Find.{get}
 use Rattle.swap_base.specs.Fault.{◌>>=◌}
-use Rattle.refusals.specs.declared.reason.Reason.{Reason}
-use Rattle.refusals.specs.declared.reason.Reason.TheVariants.{Missing}
-use Rattle.offer_fields.specs.Fields.{needed, field_number, field_text, optional_field_number, required_object, only}
+use Rattle.command_input.specs.declared.reason.Reason.{Reason}
+use Rattle.command_input.specs.declared.reason.Reason.TheVariants.{Missing}
+use Rattle.offer_moves.specs.Fields.{needed, field_number, field_text, optional_field_number, required_object, only}
 use Rattle.offer_moves.specs.Reading.{stated_raw_move}
 use Rattle.offer_events.specs.declared.raw.RawEvent.{RawEvent}
 use Rattle.offer_events.specs.declared.raw.RawEvent.TheVariants.{Tick, Look, Act, Call, Crash}

@@ -13,11 +13,11 @@ ghost use Rattle.offer_events.specs.Event.{outside_race, conforming_crash, asked
 use crate::plain::plain_event;
 use crate::raw::RawEvent;
 use crate::reading::read_raw_event;
-use offer_fields::{parse_object, party_of_name, ranged_number};
+use command_input::{OfferFault, Reason};
 use offer_moves::{
     RawMove, check_adjacent, check_deviator, check_place, deal_sizes, parse_arc, parse_move,
+    parse_object, party_of_name, ranged_number,
 };
-use refusals::{OfferFault, Reason};
 use std::alloc::Global;
 use swap_base::{Digest, Fault, PartyId, Shared};
 use swap_digraph::Deal;

@@ -5,7 +5,7 @@ ghost use Rattle.std.specs.List.{list_all};
 ghost use Rattle.offer_events.specs.Plain.{is_plain_byte, SaysRawEvent};
 
 use crate::raw::RawEvent;
-use offer_fields::TextRef;
+use offer_moves::TextRef;
 
 fn text_behind_prefix<'a>(text: &'a [u8], prefix: &[u8]) -> Option<&'a [u8]>
     ensures { MatchOption result ((rest : List ℕ) → text.now ≢ prefix.now ++ rest) (λ rest. text.now ≡ prefix.now ++ rest.now) }

@@ -1,7 +1,6 @@
 //! An event line as it stands: names are texts that lie in the line, and numbers are of any size.
 
-use offer_fields::TextRef;
-use offer_moves::RawMove;
+use offer_moves::{RawMove, TextRef};
 
 /// An event.
 #[derive(Debug, Drop)]

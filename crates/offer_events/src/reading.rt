@@ -5,12 +5,11 @@ ghost use Rattle.swap_base.specs.Fault.{Gives};
 ghost use Rattle.offer_events.specs.Reading.{raw_tick_event, raw_look_event, raw_act_event, submit_call, raw_crash_event, raw_event};
 
 use crate::raw::RawEvent;
-use offer_fields::{
-    TextRef, allow_only, field_value, is_object, read_number_field, read_optional_number,
-    read_text_field,
+use command_input::{OfferFault, missing};
+use offer_moves::{
+    TextRef, allow_only, field_value, is_object, read_move, read_number_field,
+    read_optional_number, read_text_field,
 };
-use offer_moves::read_move;
-use refusals::{OfferFault, missing};
 use serde_json::Value;
 use std::alloc::Global;
 

@@ -6,7 +6,7 @@ use Rattle.swap_digraph.specs.declared.deal.Mode.{Mode}
 use Rattle.swap_digraph.specs.declared.deal.Mode.TheVariants.{Timelocks, Hashkeys}
 use Rattle.swap_digraph.specs.declared.deal.Version.{Version}
 use Rattle.swap_digraph.specs.declared.deal.Version.TheVariants.{One, Two}
-use Rattle.offer_fields.proofs.Chains.{went}
+use Rattle.offer_moves.proofs.Chains.{went}
 use Rattle.offer_header.specs.Raw.{checked_mode, stated_mode, mode_member, IsVersionMode}
 
 -- no version has more parties

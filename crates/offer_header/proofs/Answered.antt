@@ -3,7 +3,7 @@ use Rattle.std.proofs.Common.{◌≡◌, Result, Ok, Err, refl, subst}
 use Rattle.std.specs.Prelude.{IfOk}
 use Rattle.swap_base.specs.Fault.{◌>>=◌, Gives}
 use Rattle.swap_base.specs.declared.fault.Fault.{Fault}
-use Rattle.refusals.specs.declared.reason.Reason.{Reason}
+use Rattle.command_input.specs.declared.reason.Reason.{Reason}
 
 -- what holds of whatever the steps after the first give holds of what the chain gives
 pub after : {A B : Type 0} (m : Result A Reason) (f : A → Result B Reason) (P : B → Type 0) → ((x : A) → m ≡ Ok x → IfOk (f x) P) → IfOk (m >>= f) P

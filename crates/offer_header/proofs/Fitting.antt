@@ -5,8 +5,8 @@ use Rattle.serde_json.specs.Data.{Data}
 use Rattle.swap_base.specs.Fault.{Gives}
 use Rattle.swap_base.specs.declared.fault.Fault.{Fault}
 use Rattle.swap_job.specs.declared.job.Purpose.{Purpose}
-use Rattle.refusals.specs.declared.reason.Reason.{Reason}
-use Rattle.offer_fields.specs.Fields.{field_number, field_list, only}
+use Rattle.command_input.specs.declared.reason.Reason.{Reason}
+use Rattle.offer_moves.specs.Fields.{field_number, field_list, only}
 use Rattle.offer_header.specs.Raw.{object_arc, finish_member, header_fields, keys_member, object_leader, mode_member, parse_party, object_header, states_keys, version_member}
 use Rattle.offer_header.specs.Raw.{IsVersionMode, IsUntimed, IsUntold, HasWords}
 use Rattle.offer_header.specs.Names.{numbered_header}

@@ -3,8 +3,8 @@ use Rattle.std.proofs.Common.{◌≡◌, ℕ, ◌<◌, ◌≤◌, ◌^◌, lengt
 use Rattle.std.proofs.Common.{sym, ap, ◌∙◌, subst, arith, codes}
 use Rattle.std.proofs.lemmas.List.{get_or-map, length-map}
 use Rattle.swap_base.specs.Fault.{◌>>=◌}
-use Rattle.offer_fields.specs.Limits.{ranged_number, check_range}
-use Rattle.offer_fields.specs.Lists.{collected_results}
+use Rattle.offer_moves.specs.FieldLimits.{ranged_number, check_range}
+use Rattle.offer_moves.specs.Lists.{collected_results}
 use Rattle.offer_header.specs.Names.{AreLeaders, AreEnds, IsNumbered}
 use Rattle.offer_header.specs.Raw.{is_plain, IsVersionMode, IsUntimed}
 use Rattle.offer_header.specs.Limits.{parse_acting, count_parties, header_sizes, limited_arc_terms, limited_terms, arc_ends}
@@ -30,8 +30,8 @@ use Rattle.swap_job.specs.declared.job.Purpose.{Purpose}
 use Rattle.offer_header.specs.declared.header.Header.{Header}
 use Rattle.offer_header.specs.declared.names.Ends.{Ends}
 use Rattle.offer_header.specs.declared.names.Numbered.{Numbered}
-use Rattle.offer_fields.proofs.Chains.{went, each_length, each_at}
-use Rattle.offer_fields.proofs.Ranges.{within_ok, number_within_ok}
+use Rattle.offer_moves.proofs.Chains.{went, each_length, each_at}
+use Rattle.offer_moves.proofs.Ranges.{within_ok, number_within_ok}
 use Rattle.offer_header.proofs.Allowed.{few_parties}
 
 -- ---- parties

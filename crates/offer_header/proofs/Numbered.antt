@@ -13,10 +13,10 @@ use Rattle.std.specs.Str.{bytes_eq}
 use Rattle.std.specs.List.{list_any, list_all}
 use Rattle.swap_base.specs.Fault.{◌>>=◌, steps}
 use Rattle.swap_base.proofs.Lists.{and_parts}
-use Rattle.refusals.specs.declared.reason.Reason.{Reason}
-use Rattle.refusals.specs.declared.reason.Reason.TheVariants.{BadName, Duplicate}
-use Rattle.offer_fields.specs.Lists.{collected_results}
-use Rattle.offer_fields.specs.Names.{party_of_name}
+use Rattle.command_input.specs.declared.reason.Reason.{Reason}
+use Rattle.command_input.specs.declared.reason.Reason.TheVariants.{BadName, Duplicate}
+use Rattle.offer_moves.specs.Lists.{collected_results}
+use Rattle.offer_moves.specs.Names.{party_of_name}
 use Rattle.offer_header.specs.Names.{is_name_byte, is_name, actor_known, name_added, name_step, names_stated, named_ends, leader_step, numbered_header}
 use Rattle.offer_header.specs.Names.{IsName, AreNames, AreLeaders, AreEnds, IsNumbered}
 use Rattle.offer_header.specs.declared.raw.RawParty.{RawParty}
@@ -25,8 +25,8 @@ use Rattle.offer_header.specs.declared.raw.RawLeader.{RawLeader}
 use Rattle.offer_header.specs.declared.raw.RawHeader.{RawHeader}
 use Rattle.offer_header.specs.declared.names.Ends.{Ends}
 use Rattle.offer_header.specs.declared.names.Numbered.{Numbered}
-use Rattle.offer_fields.proofs.Chains.{went, each_length, each_at}
-use Rattle.offer_fields.proofs.Ranges.{party_below}
+use Rattle.offer_moves.proofs.Chains.{went, each_length, each_at}
+use Rattle.offer_moves.proofs.Ranges.{party_below}
 use Rattle.offer_header.proofs.Walked.{steps_keep, steps_length}
 
 -- ---- one more at the end of a list

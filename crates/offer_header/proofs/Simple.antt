@@ -11,15 +11,15 @@ use Rattle.serde_json.specs.Find.{get, as_object}
 use Rattle.swap_digraph.specs.Deal.{most_parties}
 use Rattle.swap_digraph.specs.declared.deal.Mode.{Mode}
 use Rattle.swap_digraph.specs.declared.deal.Version.{Version}
-use Rattle.refusals.specs.declared.reason.Reason.{Reason}
+use Rattle.command_input.specs.declared.reason.Reason.{Reason}
 use Rattle.swap_job.specs.Roles.{is_conforming}
 use Rattle.swap_job.specs.declared.job.Purpose.{Purpose}
 use Rattle.swap_job.specs.declared.job.Purpose.TheVariants.{Check, Run, Race, Make, Audit}
 use Rattle.swap_job.specs.declared.job.Role.{Role}
 use Rattle.swap_job.specs.declared.job.Role.TheVariants as kinds
-use Rattle.offer_fields.specs.Fields.{field_text, required_object, read_array_field, field_list, listed, each, only, text_member}
-use Rattle.offer_fields.specs.Limits.{check_range}
-use Rattle.offer_fields.proofs.Chains.{went, each_all, each_at, each_length}
+use Rattle.offer_moves.specs.Fields.{field_text, required_object, read_array_field, field_list, listed, each, only, text_member}
+use Rattle.offer_moves.specs.FieldLimits.{check_range}
+use Rattle.offer_moves.proofs.Chains.{went, each_all, each_at, each_length}
 use Rattle.offer_moves.specs.declared.moves.Sizes.{Sizes}
 use Rattle.offer_header.specs.Raw.{object_actor, actor_of_word, parse_raw_actor, actor_or_conforming, actor_member, seed_member, party_fields, parse_party, IsWord, HasWords}
 use Rattle.offer_header.specs.Limits.{checked_role, checked_seed, parse_acting, count_parties, header_sizes, limited_value}

@@ -16,10 +16,10 @@ use Rattle.swap_job.specs.declared.job.Role.{Role}
 use Rattle.swap_job.specs.declared.job.Role.TheVariants as kinds
 use Rattle.swap_job.specs.declared.moves.Move.{Move}
 use Rattle.swap_job.specs.declared.moves.Move.TheVariants.{Claim}
-use Rattle.refusals.specs.declared.reason.Reason.{Reason}
-use Rattle.offer_fields.specs.Limits.{check_range}
-use Rattle.offer_fields.specs.Lists.{collected_results}
-use Rattle.offer_fields.proofs.Chains.{went, each_all}
+use Rattle.command_input.specs.declared.reason.Reason.{Reason}
+use Rattle.offer_moves.specs.FieldLimits.{check_range}
+use Rattle.offer_moves.specs.Lists.{collected_results}
+use Rattle.offer_moves.proofs.Chains.{went, each_all}
 use Rattle.offer_moves.specs.Kept.{CanStand, IsMadeMove}
 use Rattle.offer_moves.specs.Moves.{deal_sizes, parse_move}
 use Rattle.offer_moves.specs.declared.raw.RawMove.{RawMove}

@@ -4,12 +4,12 @@ use Rattle.serde_json.specs.Data.{Data}
 use Rattle.swap_base.specs.Fault.{◌>>=◌}
 use Rattle.swap_digraph.specs.declared.deal.Mode.{Mode}
 use Rattle.swap_digraph.specs.declared.deal.Mode.TheVariants.{Timelocks, Hashkeys}
-use Rattle.offer_fields.specs.Fields.{field_number, field_text, required_object, read_array_field, field_list, listed, each, only}
+use Rattle.offer_moves.specs.Fields.{field_number, field_text, required_object, read_array_field, field_list, listed, each, only}
 use Rattle.swap_job.specs.declared.job.Purpose.{Purpose}
 use Rattle.offer_header.specs.Raw.{states_timelocks, timelock_member, arc_fields, object_arc}
 use Rattle.offer_header.specs.declared.raw.Reading.{Reading}
 use Rattle.offer_header.specs.declared.raw.RawArc.{RawArc}
-use Rattle.offer_fields.proofs.Chains.{went, each_all}
+use Rattle.offer_moves.proofs.Chains.{went, each_all}
 
 none_with_hashkeys : (line : ℕ) (purpose : Purpose) (mode : Mode) (d : Data) (n : ℕ) → mode ≡ Hashkeys
     → timelock_member line (states_timelocks purpose mode) d ≡ Ok n → n ≡ 0

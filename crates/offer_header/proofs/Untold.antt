@@ -4,16 +4,16 @@ use Rattle.std.proofs.Common.{ltb-true, ltb-false, Result, arith}
 use Rattle.std.proofs.Math.ListN.{get_or-eq_default}
 use Rattle.std.proofs.lemmas.List.{get_or-map, length-map}
 use Rattle.serde_json.specs.Data.{Data}
-use Rattle.refusals.specs.declared.reason.Reason.{Reason}
+use Rattle.command_input.specs.declared.reason.Reason.{Reason}
 use Rattle.swap_digraph.specs.Deal.{most_parties}
 use Rattle.swap_digraph.specs.declared.deal.Mode.{Mode}
 use Rattle.swap_digraph.specs.declared.deal.Version.{Version}
 use Rattle.swap_job.specs.declared.job.Purpose.{Purpose}
 use Rattle.swap_job.specs.declared.job.Purpose.TheVariants.{Check, Run, Race, Make, Audit}
-use Rattle.offer_fields.specs.Fields.{field_text, required_object, read_array_field, field_list, listed, each, only}
-use Rattle.offer_fields.specs.Limits.{check_range}
-use Rattle.offer_fields.specs.Lists.{collected_results}
-use Rattle.offer_fields.proofs.Chains.{went, each_all, each_at, each_length}
+use Rattle.offer_moves.specs.Fields.{field_text, required_object, read_array_field, field_list, listed, each, only}
+use Rattle.offer_moves.specs.FieldLimits.{check_range}
+use Rattle.offer_moves.specs.Lists.{collected_results}
+use Rattle.offer_moves.proofs.Chains.{went, each_all, each_at, each_length}
 use Rattle.offer_header.specs.Raw.{actor_member, party_fields, parse_party, finish_member, IsUntold}
 use Rattle.offer_header.specs.Limits.{seed_or_none, checked_seed, checked_role, parse_acting, count_parties, header_sizes, limited_value}
 use Rattle.offer_header.specs.Header.{IsUntoldHeader}

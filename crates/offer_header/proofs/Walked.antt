@@ -3,7 +3,7 @@ use Rattle.std.proofs.Common.{◌≡◌, suc, ◌+◌, length, List, [], ◌∷�
 use Rattle.std.specs.List.{All}
 use Rattle.std.proofs.lemmas.List.Elements.{All-nil, All-cons}
 use Rattle.swap_base.specs.Fault.{steps}
-use Rattle.offer_fields.proofs.Chains.{went}
+use Rattle.offer_moves.proofs.Chains.{went}
 
 steps_cons : {S A R : Type 0} (f : S → A → Result S R) (s : S) (x : A) (xs : List A) (t : S) → steps f s (x ∷ xs) ≡ Ok t
     → (u : S) × (f s x ≡ Ok u) × (steps f u xs ≡ Ok t)

@@ -11,8 +11,8 @@ use Rattle.swap_job.specs.declared.job.Role.TheVariants.{Conforming, Manual}
 use Rattle.swap_job.specs.declared.job.Purpose.{Purpose}
 use Rattle.swap_job.specs.declared.job.Purpose.TheVariants.{Audit}
 use Rattle.swap_job.specs.declared.job.Finish.TheVariants.{Stop}
-use Rattle.refusals.specs.declared.reason.Reason.{Reason}
-use Rattle.offer_fields.specs.Fields.{parse_data}
+use Rattle.command_input.specs.declared.reason.Reason.{Reason}
+use Rattle.offer_moves.specs.Fields.{parse_data}
 use Rattle.offer_header.specs.Raw.{object_header, IsVersionMode}
 use Rattle.offer_header.specs.declared.raw.RawHeader.{RawHeader}
 use Rattle.offer_header.specs.Names.{numbered_header, AreNames, AreLeaders}

@@ -5,10 +5,10 @@ use Rattle.std.specs.Prelude.{if◌then◌else◌, false, Result, Ok, Err}
 use Rattle.std.specs.Str.{bytes_eq}
 use Rattle.std.specs.List.{list_any, list_all}
 use Rattle.swap_base.specs.Fault.{◌>>=◌, steps}
-use Rattle.refusals.specs.declared.reason.Reason.{Reason}
-use Rattle.refusals.specs.declared.reason.Reason.TheVariants.{BadName, Duplicate, Unknown}
-use Rattle.offer_fields.specs.Lists.{collected_results}
-use Rattle.offer_fields.specs.Names.{party_of_name}
+use Rattle.command_input.specs.declared.reason.Reason.{Reason}
+use Rattle.command_input.specs.declared.reason.Reason.TheVariants.{BadName, Duplicate, Unknown}
+use Rattle.offer_moves.specs.Lists.{collected_results}
+use Rattle.offer_moves.specs.Names.{party_of_name}
 use Rattle.offer_moves.specs.declared.raw.RawMove.{RawMove}
 use Rattle.offer_moves.specs.declared.raw.RawMove.TheVariants.{Craft, Raw, Transfer}
 use Rattle.offer_header.specs.declared.raw.RawActor.{RawActor}

@@ -14,9 +14,9 @@ use Rattle.swap_job.specs.declared.job.Purpose.{Purpose}
 use Rattle.swap_job.specs.declared.job.Purpose.TheVariants.{Make, Audit}
 use Rattle.swap_job.specs.declared.job.Finish.{Finish}
 use Rattle.swap_job.specs.declared.job.Finish.TheVariants.{Stop, Fair}
-use Rattle.refusals.specs.declared.reason.Reason.{Reason}
-use Rattle.refusals.specs.declared.reason.Reason.TheVariants.{WrongKind}
-use Rattle.offer_fields.specs.Fields.{kind, field_number, field_text, field_word, optional_field_text, text_member, required_object, field_list, each, only}
+use Rattle.command_input.specs.declared.reason.Reason.{Reason}
+use Rattle.command_input.specs.declared.reason.Reason.TheVariants.{WrongKind}
+use Rattle.offer_moves.specs.Fields.{kind, field_number, field_text, field_word, optional_field_text, text_member, required_object, field_list, each, only}
 use Rattle.offer_moves.specs.Reading.{script_move}
 use Rattle.offer_header.specs.declared.raw.Front.{Front}
 use Rattle.offer_header.specs.declared.raw.Reading.{Reading}

@@ -8,7 +8,7 @@ use Rattle.swap_job.specs.Crafted.{Seeds}
 use Rattle.swap_job.specs.Roles.{role_script}
 use Rattle.swap_job.specs.declared.job.Role.{Role}
 use Rattle.swap_job.specs.declared.job.Role.TheVariants.{Script}
-use Rattle.refusals.specs.declared.reason.Reason.{Reason}
+use Rattle.command_input.specs.declared.reason.Reason.{Reason}
 use Rattle.offer_moves.specs.Kept.{CanStand, IsMadeMove}
 use Rattle.offer_moves.specs.Moves.{deal_sizes}
 use Rattle.offer_moves.specs.Placed.{placed}

@@ -2,13 +2,13 @@
 
 ghost use Rattle.serde_json.specs.View.{view};
 ghost use Rattle.swap_base.specs.Fault.{Gives};
-ghost use Rattle.offer_fields.specs.Fields.{only};
+ghost use Rattle.offer_moves.specs.Fields.{only};
 ghost use Rattle.offer_header.specs.Raw.{version_member, checked_mode, stated_mode, mode_member, states_keys, keys_member, finish_of_word, stated_finish, finish_member};
 ghost use Rattle.offer_header.specs.Raw.{transcript_fields, job_fields, header_fields, raw_header_lists, object_header};
 
 use crate::raw::{Front, RawHeader, RawRow, Reading};
-use offer_fields::{allow_only, read_list, read_number_field, read_optional_text, read_text_field};
-use refusals::{OfferFault, wrong_kind};
+use command_input::{OfferFault, wrong_kind};
+use offer_moves::{allow_only, read_list, read_number_field, read_optional_text, read_text_field};
 use serde_json::Value;
 use std::alloc::Global;
 use swap_base::Listed;

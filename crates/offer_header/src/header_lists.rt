@@ -3,17 +3,17 @@
 ghost use Rattle.std.specs.Prelude.{codes};
 ghost use Rattle.serde_json.specs.View.{view};
 ghost use Rattle.swap_base.specs.Fault.{Gives};
-ghost use Rattle.offer_fields.specs.Fields.{only, optional_field_text, field_text};
+ghost use Rattle.offer_moves.specs.Fields.{only, optional_field_text, field_text};
 ghost use Rattle.offer_header.specs.Raw.{script_actor, strategy_actor, planned_actor, object_actor, actor_of_word, actor_member, seed_member, party_fields, parse_party};
 ghost use Rattle.offer_header.specs.Raw.{timelock_member, arc_fields, read_arc, object_arc};
 ghost use Rattle.offer_header.specs.Raw.{hashlock_member, leader_fields, object_leader, parse_key_row};
 
 use crate::raw::{RawActor, RawArc, RawLeader, RawParty, RawRow, Reading, is_plain};
-use offer_fields::{
+use command_input::{OfferFault, wrong_kind};
+use offer_moves::{
     Member, TextRef, allow_only, is_object, member_text, read_list, read_number_field,
     read_optional_text, read_text_field, read_texts,
 };
-use refusals::{OfferFault, wrong_kind};
 use serde_json::Value;
 use std::alloc::Global;
 use swap_base::ByteText;

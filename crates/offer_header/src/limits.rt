@@ -3,8 +3,8 @@
 ghost use Rattle.std.specs.Prelude.{◌≡◌, ◌<◌, ◌≤◌, ℕ, Result, map, length, IfOk};
 ghost use Rattle.swap_base.specs.Fault.{Gives};
 ghost use Rattle.swap_job.specs.Roles.{is_conforming};
-ghost use Rattle.refusals.specs.declared.reason.Reason.{Reason};
-ghost use Rattle.offer_fields.specs.Lists.{collected_results};
+ghost use Rattle.command_input.specs.declared.reason.Reason.{Reason};
+ghost use Rattle.offer_moves.specs.Lists.{collected_results};
 ghost use Rattle.offer_moves.specs.Moves.{parse_move};
 ghost use Rattle.offer_header.specs.Limits.{checked_seed, script_role, checked_role, parse_acting, count_parties, header_sizes, limited_arc_terms, limited_terms, arc_ends};
 ghost use Rattle.offer_header.specs.Limits.{stated_hashlock, no_digests, read_hashlocks};
@@ -15,9 +15,8 @@ use crate::header::Header;
 use crate::names::{Ends, Numbered};
 use crate::raw::{RawActor, RawArc, RawHeader, RawLeader, RawParty, RawRow, is_plain};
 use crate::versions::{most_arcs, most_parties, version_path_limit};
-use offer_fields::{TextRef, check_range, parse_digest, ranged_number};
-use offer_moves::{RawMove, Sizes, parse_move};
-use refusals::{OfferFault, Reason};
+use command_input::{OfferFault, Reason};
+use offer_moves::{RawMove, Sizes, TextRef, check_range, parse_digest, parse_move, ranged_number};
 use std::alloc::Global;
 use swap_base::{ByteText, Digest, Listed, NoMemory, PartyId, TryCopy};
 use swap_digraph::{ArcEnds, Mode, Version};
@@ -61,7 +60,7 @@ pub struct Acting {
     pub seed: Option<Digest>,
 }
 
-#[tactic(auto, using(offer_fields::proofs::Lists::goes_on, offer_fields::proofs::Lists::ends, offer_fields::proofs::Lists::is_done))]
+#[tactic(auto, using(offer_moves::proofs::Lists::goes_on, offer_moves::proofs::Lists::ends, offer_moves::proofs::Lists::is_done))]
 fn parse_moves(
     alloc: Global,
     sizes: Sizes,
@@ -140,7 +139,7 @@ fn parse_acting(
     Ok(Acting { role, seed })
 }
 
-#[tactic(auto, using(offer_fields::proofs::Lists::goes_on, offer_fields::proofs::Lists::ends, offer_fields::proofs::Lists::is_done))]
+#[tactic(auto, using(offer_moves::proofs::Lists::goes_on, offer_moves::proofs::Lists::ends, offer_moves::proofs::Lists::is_done))]
 fn each_acting(
     alloc: Global,
     sizes: Sizes,

@@ -4,17 +4,16 @@ ghost use Rattle.std.specs.Prelude.{◌≡◌, ◌<◌, [], List, map, IfOk, OnO
 ghost use Rattle.std.specs.List.{list_all, list_any};
 ghost use Rattle.std.specs.Str.{bytes_eq};
 ghost use Rattle.swap_base.specs.Fault.{Gives, steps};
-ghost use Rattle.offer_fields.specs.Lists.{collected_results};
-ghost use Rattle.offer_fields.specs.Names.{party_of_name};
+ghost use Rattle.offer_moves.specs.Lists.{collected_results};
+ghost use Rattle.offer_moves.specs.Names.{party_of_name};
 ghost use Rattle.offer_header.specs.Names.{has_strategy, strategy_known};
 ghost use Rattle.offer_header.specs.Names.{is_name, is_name_byte, known_name, all_known, move_known, actor_known, name_added, name_step};
 ghost use Rattle.offer_header.specs.Names.{with_name, names_stated, named_ends, leader_step, assign_checked_numbers, resolve_numbers, numbered_header};
 
 use crate::raw::{RawActor, RawArc, RawHeader, RawLeader, RawParty};
+use command_input::{OfferFault, bad_name, duplicate, unknown};
 use indexmap::IndexSet;
-use offer_fields::TextRef;
-use offer_moves::RawMove;
-use refusals::{OfferFault, bad_name, duplicate, unknown};
+use offer_moves::{RawMove, TextRef};
 use std::alloc::Global;
 use swap_base::{ByteText, Listed, NoMemory};
 
@@ -247,7 +246,7 @@ fn add_parties<'h>(
     Ok(())
 }
 
-#[tactic(auto, using(swap_base::proofs::Steps::position_map), unfolding(offer_fields::specs::Names::party_of_name))]
+#[tactic(auto, using(swap_base::proofs::Steps::position_map), unfolding(offer_moves::specs::Names::party_of_name))]
 fn name_number(
     alloc: Global,
     line: u32,

@@ -3,8 +3,7 @@
 ghost use Rattle.std.specs.Prelude.{◌≡◌};
 ghost use Rattle.offer_header.specs.Raw.{is_plain, states_keys, states_timelocks};
 
-use offer_fields::TextRef;
-use offer_moves::RawMove;
+use offer_moves::{RawMove, TextRef};
 use swap_base::{ByteText, Listed};
 use swap_digraph::{Mode, Version};
 use swap_job::{Finish, Purpose};

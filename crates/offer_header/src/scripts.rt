@@ -8,8 +8,8 @@ ghost use Rattle.offer_moves.specs.Placed.{placed};
 ghost use Rattle.offer_header.specs.Scripts.{role_placed, roles_placed, scripts_placed, AllStand};
 
 use crate::header::Header;
+use command_input::OfferFault;
 use offer_moves::check_place;
-use refusals::OfferFault;
 use swap_base::PartyId;
 use swap_digraph::ArcEnds;
 use swap_job::{Move, Role};

@@ -14,10 +14,10 @@ use Rattle.swap_job.specs.declared.moves.Move.TheVariants.{Publish, Craft, Repla
 use Rattle.swap_job.specs.Crafted.{Seeds}
 use Rattle.swap_job.specs.Fitting.{IsArc, IsFitting}
 use Rattle.swap_job.specs.Resolved.{move_arc}
-use Rattle.refusals.specs.declared.reason.Reason.TheVariants.{NotAdjacent}
-use Rattle.offer_fields.specs.Lists.{collected_results}
-use Rattle.offer_fields.specs.Limits.{ranged_number, check_range, to_digest}
-use Rattle.offer_fields.specs.Names.{party_of_name}
+use Rattle.command_input.specs.declared.reason.Reason.TheVariants.{NotAdjacent}
+use Rattle.offer_moves.specs.Lists.{collected_results}
+use Rattle.offer_moves.specs.FieldLimits.{ranged_number, check_range, to_digest}
+use Rattle.offer_moves.specs.Names.{party_of_name}
 use Rattle.offer_moves.specs.declared.raw.RawTerms.{RawTerms}
 use Rattle.offer_moves.specs.declared.raw.RawKey.{RawKey}
 use Rattle.offer_moves.specs.declared.raw.RawCraft.{RawCraft}
@@ -29,8 +29,8 @@ use Rattle.offer_moves.specs.Moves.{parse_refund, parse_transfer}
 use Rattle.offer_moves.specs.Moves.{parse_wait, parse_move}
 use Rattle.offer_moves.specs.Placed.{adjacent, crafted_by_others, placed}
 use Rattle.offer_moves.specs.Kept.{AreSeeded, IsMadeMove}
-use Rattle.offer_fields.proofs.Chains.{went, each_length}
-use Rattle.offer_fields.proofs.Ranges.{passed, within_ok, number_within_ok}
+use Rattle.offer_moves.proofs.Chains.{went, each_length}
+use Rattle.offer_moves.proofs.Ranges.{passed, within_ok, number_within_ok}
 use Rattle.offer_moves.proofs.ReadNumbers.{number_below_ok, each_below}
 
 pub arc_fits : (d : Deal) (line : ℕ) (field : List ℕ) (n a : ℕ) → parse_arc (deal_sizes d) line field n ≡ Ok a → a < length d.graph.arcs

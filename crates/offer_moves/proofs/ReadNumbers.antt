@@ -4,11 +4,11 @@ use Rattle.std.specs.Prelude.{nat_lt}
 use Rattle.std.specs.List.{list_all}
 use Rattle.std.proofs.lemmas.Bool.Decides.{nat_tests}
 use Rattle.swap_base.proofs.Lists.{and_both}
-use Rattle.refusals.specs.declared.reason.Reason.TheVariants.{OverLimit}
-use Rattle.offer_fields.specs.Lists.{collected_results}
-use Rattle.offer_fields.specs.Names.{party_of_name}
-use Rattle.offer_fields.proofs.Chains.{went}
-use Rattle.offer_fields.proofs.Ranges.{passed, party_below}
+use Rattle.command_input.specs.declared.reason.Reason.TheVariants.{OverLimit}
+use Rattle.offer_moves.specs.Lists.{collected_results}
+use Rattle.offer_moves.specs.Names.{party_of_name}
+use Rattle.offer_moves.proofs.Chains.{went}
+use Rattle.offer_moves.proofs.Ranges.{passed, party_below}
 use Rattle.offer_moves.specs.Limits.{number_below_count}
 
 pub number_below_ok : (line : ℕ) (field : List ℕ) (count n m : ℕ) → number_below_count line field count n ≡ Ok m → m < count

@@ -2,9 +2,9 @@
 use Rattle.std.proofs.Common.{◌≡◌, ℕ, ◌<◌, length, List, Ok, refl, codes, subst}
 use Rattle.swap_job.specs.declared.moves.Move.{Move}
 use Rattle.swap_job.specs.declared.moves.Move.TheVariants.{Publish, Craft, Replay, Raw, Claim, Refund, Transfer, Wait}
-use Rattle.offer_fields.specs.Lists.{collected_results}
-use Rattle.offer_fields.specs.Limits.{ranged_number, check_range}
-use Rattle.offer_fields.specs.Names.{party_of_name}
+use Rattle.offer_moves.specs.Lists.{collected_results}
+use Rattle.offer_moves.specs.FieldLimits.{ranged_number, check_range}
+use Rattle.offer_moves.specs.Names.{party_of_name}
 use Rattle.offer_moves.specs.declared.moves.Sizes.{Sizes}
 use Rattle.offer_moves.specs.declared.raw.RawTerms.{RawTerms}
 use Rattle.offer_moves.specs.declared.raw.RawKey.{RawKey}
@@ -16,7 +16,7 @@ use Rattle.offer_moves.specs.Moves.{parse_arc, optional_arc, make_publish, parse
 use Rattle.offer_moves.specs.Moves.{parse_transfer, parse_wait}
 use Rattle.offer_moves.specs.Moves.{parse_move}
 use Rattle.offer_moves.specs.Kept.{CanStand}
-use Rattle.offer_fields.proofs.Chains.{went}
+use Rattle.offer_moves.proofs.Chains.{went}
 use Rattle.offer_moves.proofs.ReadNumbers.{number_below_ok, each_below}
 
 arc_below : (s : Sizes) (line : ℕ) (field : List ℕ) (n a : ℕ) → parse_arc s line field n ≡ Ok a → a < s.arcs

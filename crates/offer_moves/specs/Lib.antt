@@ -1,3 +1,7 @@
+pub mod Lists
+pub mod Fields
+pub mod FieldLimits
+pub mod Names
 pub mod Reading
 pub mod Limits
 pub mod Moves

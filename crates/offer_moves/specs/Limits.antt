@@ -4,10 +4,10 @@ use Rattle.hex.specs.Hex.{decode_sized}
 use Rattle.swap_base.specs.Fault.{◌>>=◌}
 use Rattle.hash_signature.specs.Signature.{text_values}
 use Rattle.hash_signature.specs.declared.sig.Sig.{Sig}
-use Rattle.refusals.specs.declared.reason.Reason.{Reason}
-use Rattle.refusals.specs.declared.reason.Reason.TheVariants.{OverLimit}
-use Rattle.offer_fields.specs.Limits.{ranged_number, check_range, decoded, to_digest}
-use Rattle.offer_fields.specs.Lists.{collected_results}
+use Rattle.command_input.specs.declared.reason.Reason.{Reason}
+use Rattle.command_input.specs.declared.reason.Reason.TheVariants.{OverLimit}
+use Rattle.offer_moves.specs.FieldLimits.{ranged_number, check_range, decoded, to_digest}
+use Rattle.offer_moves.specs.Lists.{collected_results}
 
 -- a number that is below a count, kept in a byte: where the count is above 256, the header is
 -- refused for that

@@ -7,8 +7,8 @@ use Rattle.swap_digraph.specs.Graph.{resolve_all_ends}
 use Rattle.swap_job.specs.declared.moves.Move.{Move}
 use Rattle.swap_job.specs.declared.moves.Move.TheVariants.{Craft, Transfer}
 use Rattle.swap_job.specs.Resolved.{move_arc}
-use Rattle.refusals.specs.declared.reason.Reason.{Reason}
-use Rattle.refusals.specs.declared.reason.Reason.TheVariants.{NotAdjacent, ConformingCall}
+use Rattle.command_input.specs.declared.reason.Reason.{Reason}
+use Rattle.command_input.specs.declared.reason.Reason.TheVariants.{NotAdjacent, ConformingCall}
 
 -- a conforming party makes no call by hand
 unfoldable pub deviating : ℕ → Bool → Result (Unit {0}) Reason

@@ -2,16 +2,18 @@
 
 ghost use Rattle.std.specs.Prelude.{◌≡◌, ◌<◌, ◌^◌, codes};
 ghost use Rattle.swap_base.specs.Fault.{Gives};
-ghost use Rattle.offer_fields.specs.Limits.{to_digest, ranged_number};
-ghost use Rattle.offer_fields.specs.Lists.{collected_results};
+ghost use Rattle.offer_moves.specs.FieldLimits.{to_digest, ranged_number};
+ghost use Rattle.offer_moves.specs.Lists.{collected_results};
 ghost use Rattle.offer_moves.specs.Limits.{number_below_count, optional_most, kept, limited_locks, optional_locks, parse_sig};
 
+use crate::field_limits::{check_range, ranged_number};
+use crate::hexadecimal::parse_digest;
+use crate::text::TextRef;
+use command_input::{OfferFault, over_limit, wrong_hex};
 use escrow_core::LockList;
 use hash_signature::Sig;
 use hashkey_path::SigList;
 use hex::FromHex;
-use offer_fields::{TextRef, check_range, parse_digest, ranged_number};
-use refusals::{OfferFault, over_limit, wrong_hex};
 use std::alloc::Global;
 use swap_base::{Digest, Listed};
 
@@ -48,7 +50,7 @@ pub fn optional_most(
 }
 
 /// Units, at most 10^12.
-#[tactic(auto, unfolding(offer_fields::specs::Limits::ranged_number))]
+#[tactic(auto, unfolding(crate::specs::FieldLimits::ranged_number))]
 pub fn units(alloc: Global, line: u32, field: &str, number: u64) -> Result<u64, OfferFault>
     ensures { Gives (λ n. n) result (ranged_number line field.now 0 1000000000000 number) }
 {
@@ -71,7 +73,7 @@ pub fn optional_units(
     }
 }
 
-#[tactic(auto, using(offer_fields::proofs::Lists::goes_on, offer_fields::proofs::Lists::ends, offer_fields::proofs::Lists::is_done))]
+#[tactic(auto, using(crate::proofs::Lists::goes_on, crate::proofs::Lists::ends, crate::proofs::Lists::is_done))]
 fn list_digests(
     alloc: Global,
     line: u32,
@@ -139,7 +141,7 @@ fn parse_sig(alloc: Global, line: u32, text: &[u8]) -> Result<Sig, OfferFault>
 }
 
 /// Signatures.
-#[tactic(auto, using(offer_fields::proofs::Lists::goes_on, offer_fields::proofs::Lists::ends, offer_fields::proofs::Lists::is_done))]
+#[tactic(auto, using(crate::proofs::Lists::goes_on, crate::proofs::Lists::ends, crate::proofs::Lists::is_done))]
 pub fn parse_sigs(alloc: Global, line: u32, texts: &[TextRef<'_>]) -> Result<SigList, OfferFault>
     ensures { Gives (λ l. l) result (collected_results (parse_sig line) texts.now) }
 {

@@ -5,14 +5,16 @@ ghost use Rattle.swap_base.specs.Fault.{Gives};
 ghost use Rattle.offer_moves.specs.Moves.{parse_arc, optional_arc, make_publish, parse_craft, parse_replay, checked_hashkey, parse_unlock, parse_claim, parse_refund, make_transfer};
 ghost use Rattle.offer_moves.specs.Moves.{deal_sizes, parse_wait, parse_move};
 
+use crate::field_limits::{check_range, ranged_number};
+use crate::hexadecimal::parse_digest;
 use crate::limits::{
     number_below_count, optional_locks, optional_most, optional_units, parse_sigs, units,
 };
 use crate::names::path_numbers;
+use crate::party_names::party_of_name;
 use crate::raw::{RawCraft, RawKey, RawMove, RawTerms};
+use command_input::OfferFault;
 use hashkey_path::Hashkey;
-use offer_fields::{check_range, parse_digest, party_of_name, ranged_number};
-use refusals::OfferFault;
 use std::alloc::Global;
 use swap_base::{ArcId, ByteText, PartyId};
 use swap_digraph::{Deal, PathList, path_limit};

@@ -2,17 +2,18 @@
 
 ghost use Rattle.std.specs.Prelude.{◌≤◌, length};
 ghost use Rattle.swap_base.specs.Fault.{Gives};
-ghost use Rattle.offer_fields.specs.Lists.{collected_results};
-ghost use Rattle.offer_fields.specs.Names.{party_of_name};
+ghost use Rattle.offer_moves.specs.Lists.{collected_results};
+ghost use Rattle.offer_moves.specs.Names.{party_of_name};
 
-use offer_fields::{TextRef, party_of_name};
-use refusals::OfferFault;
+use crate::party_names::party_of_name;
+use crate::text::TextRef;
+use command_input::OfferFault;
 use std::alloc::Global;
 use swap_base::{ByteText, Listed};
 use swap_digraph::PathList;
 
 /// The numbers of the parties of those names.
-#[tactic(auto, using(offer_fields::proofs::Lists::goes_on, offer_fields::proofs::Lists::ends, offer_fields::proofs::Lists::is_done))]
+#[tactic(auto, using(crate::proofs::Lists::goes_on, crate::proofs::Lists::ends, crate::proofs::Lists::is_done))]
 pub fn path_numbers(
     alloc: Global,
     line: u32,

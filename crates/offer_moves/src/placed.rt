@@ -7,7 +7,7 @@ ghost use Rattle.swap_job.specs.Resolved.{move_arc};
 ghost use Rattle.offer_moves.specs.Kept.{AreBoundedCrafters};
 ghost use Rattle.offer_moves.specs.Placed.{deviating, adjacent, received, crafted_by_others, placed};
 
-use refusals::{OfferFault, Reason};
+use command_input::{OfferFault, Reason};
 use swap_base::{ArcId, Fault, PartyId};
 use swap_digraph::ArcEnds;
 use swap_job::{Move, arc_of_move};

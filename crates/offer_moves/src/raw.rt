@@ -1,6 +1,6 @@
 //! A move as its line states it: names are texts that lie in the line, and numbers are of any size.
 
-use offer_fields::TextRef;
+use crate::text::TextRef;
 use swap_base::Listed;
 
 /// The terms that a publish states in place of the correct ones.

@@ -3,17 +3,18 @@
 ghost use Rattle.serde_json.specs.View.{view};
 ghost use Rattle.serde_json.specs.Find.{as_array};
 ghost use Rattle.swap_base.specs.Fault.{Gives};
-ghost use Rattle.offer_fields.specs.Fields.{only};
+ghost use Rattle.offer_moves.specs.Fields.{only};
 ghost use Rattle.offer_moves.specs.Reading.{list_texts, optional_field_texts, field_texts, word_move_kind, move_kind, raw_publish_terms, publish_fields, raw_publish_move, raw_hashkey};
 ghost use Rattle.offer_moves.specs.Reading.{raw_fields, raw_unlock_move, raw_claim_move, raw_refund_move, raw_transfer_move, raw_move_of_kind, stated_raw_move, raw_crafting, raw_craft_move, raw_replay_move};
 ghost use Rattle.offer_moves.specs.Reading.{script_move, wait_move_kind, raw_wait_move};
 
-use crate::raw::{MoveKind, RawCraft, RawKey, RawMove, RawTerms};
-use offer_fields::{
-    Member, TextRef, allow_only, field_array, is_object, read_number_field, read_optional_number,
+use crate::fields::{
+    Member, allow_only, field_array, is_object, read_number_field, read_optional_number,
     read_text_field, read_texts as members_in,
 };
-use refusals::{OfferFault, wrong_kind};
+use crate::raw::{MoveKind, RawCraft, RawKey, RawMove, RawTerms};
+use crate::text::TextRef;
+use command_input::{OfferFault, wrong_kind};
 use serde_json::Value;
 use std::alloc::Global;
 use swap_base::Listed;
@@ -51,7 +52,7 @@ fn read_optional_texts<'v>(
 }
 
 /// The texts of a list.
-#[tactic(auto, unfolding(crate::specs::Reading::field_texts, offer_fields::specs::Fields::field_list))]
+#[tactic(auto, unfolding(crate::specs::Reading::field_texts, crate::specs::Fields::field_list))]
 fn read_texts<'v>(
     alloc: Global,
     line: u32,

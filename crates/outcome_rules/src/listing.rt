@@ -13,12 +13,10 @@ ghost use Rattle.outcome_rules.specs.Promises.{AllAreConforming, AllHaveRefunds,
 ghost use Rattle.outcome_rules.specs.Report.{is_conforming_party};
 
 use crate::indexes::build_indexes;
-use conduct_check::{put_broken, put_forgeries};
+use conduct_check::{Judged, put_broken, put_forgeries, put_lates, unlocks_on_own_arcs};
 use due_calls::arc_height;
 use history_index::Index;
-use late_check::put_lates;
 use ledger_core::Book;
-use sent_keys::{Judged, unlocks_on_own_arcs};
 use std::alloc::Global;
 use swap_base::{ArcId, Listed, NoMemory, PartyId};
 use swap_digraph::Deal;
@@ -92,7 +90,7 @@ fn put_unfinished_arc(
 }
 
 /// Adds the ledgers that aren't above the horizon.
-#[tactic(auto, using(sent_keys::proofs::Loops::flat_more))]
+#[tactic(auto, using(conduct_check::proofs::KeyLoops::flat_more))]
 fn put_unfinished(out: &mut Vec<Finding>, deal: &Deal, known: &[Index]) -> Result<(), NoMemory>
     requires { IsWellSized deal.now }
     ensures { OnOk result (out.new.items ≡ out.old.items ++ unfinished deal.now (all_entries known.now)) }

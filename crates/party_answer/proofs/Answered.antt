@@ -23,7 +23,7 @@ use Rattle.swap_rules.proofs.Useful.{useful_is_due, only_harm_is_left_out, ticks
 use Rattle.wallet_promise.specs.Life.{kept_note, make_if, is_kept, MayGo, MayKeep}
 use Rattle.wallet_promise.specs.Answers.{was_sent}
 use Rattle.wallet_promise.proofs.Keys.{kept_state}
-use Rattle.told_books.proofs.Enough.{same_useful}
+use Rattle.wallet_promise.proofs.Enough.{same_useful}
 use Rattle.party_wallet.specs.Keys.{own_key, onto_key}
 use Rattle.party_machine.specs.Wallet.{seed_wallet}
 use Rattle.answer_rules.specs.Heights.{HasHeight}

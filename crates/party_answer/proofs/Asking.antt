@@ -15,7 +15,7 @@ use Rattle.ledger_core.specs.Book.{Histories, IsLegalBook}
 use Rattle.swap_rules.specs.Due.{Action}
 use Rattle.swap_rules.specs.Useful.{useful}
 use Rattle.swap_rules.proofs.Words.{bytes_eq-true}
-use Rattle.refusals.specs.declared.refusal.Refusal.{Refusal}
+use Rattle.command_input.specs.declared.refusal.Refusal.{Refusal}
 use Rattle.party_wallet.specs.Value.{signed_hashkey}
 use Rattle.party_wallet.specs.Fits.{wrong_lock}
 use Rattle.party_machine.specs.Wallet.{seed_wallet}
@@ -25,7 +25,7 @@ use Rattle.answer_rules.specs.Laws.{AreGoodKeys}
 use Rattle.answer_rules.specs.Stopped.{is_stopped_call, useful_unless_stopped}
 use Rattle.answer_rules.proofs.Measured.{useful_is_short}
 use Rattle.answer_rules.proofs.Stopping.{unstopped_useful}
-use Rattle.party_due.specs.Actions.{is_lock_stopped}
+use Rattle.party_answer.specs.Actions.{is_lock_stopped}
 use Rattle.party_answer.specs.declared.asked.Asked.{Asked}
 use Rattle.party_answer.specs.declared.given.Answer.{Answer}
 use Rattle.party_answer.specs.declared.reason.AnswerReason.{AnswerReason}
@@ -39,7 +39,7 @@ use Rattle.party_answer.specs.Unkept.{is_lock_unkept, stopped_locks}
 use Rattle.party_answer.specs.Lines.{timed}
 use Rattle.party_answer.specs.Text.{answer_told, answered, answered_calls, bad_lines, due_text, question_answer, said_answer, unkept, unkept_text, warning_text, warns}
 use Rattle.party_answer.specs.Promised.{IsPromisedAnswer, NeedsAgreement}
-use Rattle.party_lines.specs.Lines.{ended_lines}
+use Rattle.party_rows.specs.Lines.{ended_lines}
 use Rattle.party_answer.proofs.Answered.{IsSound, holds, seed_signs}
 use Rattle.party_answer.proofs.Faults.{fails_by_refusal}
 

@@ -3,8 +3,8 @@ use Rattle.std.proofs.Common.{◌≡◌, Result, ap, sym, subst}
 use Rattle.swap_base.specs.declared.fault.Fault.{Fault}
 use Rattle.swap_base.specs.declared.fault.Fault.TheVariants.{Refused, NoMemory}
 use Rattle.swap_base.specs.Fault.{Fails}
-use Rattle.refusals.specs.declared.reason.Reason.{Reason}
-use Rattle.refusals.specs.declared.refusal.Refusal.{Refusal}
+use Rattle.command_input.specs.declared.reason.Reason.{Reason}
+use Rattle.command_input.specs.declared.refusal.Refusal.{Refusal}
 use Rattle.party_answer.specs.declared.reason.AnswerReason.{AnswerReason}
 use Rattle.party_answer.specs.Asked.{as_answer_reason, by_refusal}
 use Rattle.party_answer.specs.Faults.{reason_fault, refusal_fault}

@@ -17,14 +17,14 @@ use Rattle.hashkey_path.specs.declared.hashkey.HashkeyAnswer.{HashkeyAnswer}
 use Rattle.hashkey_path.specs.declared.hashkey.HashkeyAnswer.TheVariants.{Valid, WrongSecret, WrongPath, WrongSignature}
 use Rattle.hashkey_path.specs.Hashkey.{is_wrong_secret, is_wrong_path, is_wrong_signature, is_valid, hashkey_answer}
 use Rattle.hashkey_path.proofs.Answered.{says_valid, valid_answer}
-use Rattle.refusals.specs.declared.reason.Reason.TheVariants.{BadLine}
-use Rattle.refusals.specs.declared.refusal.Refusal.{Refusal}
+use Rattle.command_input.specs.declared.reason.Reason.TheVariants.{BadLine}
+use Rattle.command_input.specs.declared.refusal.Refusal.{Refusal}
 use Rattle.party_wallet.specs.Value.{signed_hashkey}
 use Rattle.swap_rules.specs.Conduct.{is_first_key}
 use Rattle.swap_rules.specs.Machine.{IsGoodKey}
 use Rattle.swap_rules.proofs.Prefixes.{same_or_not}
 use Rattle.swap_rules.proofs.Words.{enters, same_key-true}
-use Rattle.party_lines.specs.Lines.{nameless, following_line_number}
+use Rattle.party_rows.specs.Lines.{nameless, following_line_number}
 use Rattle.party_answer.specs.declared.note.Note.{Note}
 use Rattle.party_answer.specs.declared.note.Note.TheVariants.{Keep, Sent}
 use Rattle.party_answer.specs.Kept.{KeptState, is_valid_answer, opens_first, may_be_kept, is_keepable, with_note, with_notes}

@@ -1,3 +1,4 @@
+pub mod Based
 pub mod Good
 pub mod Members
 pub mod Answered

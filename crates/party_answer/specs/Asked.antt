@@ -4,16 +4,16 @@ use Rattle.std.specs.Str.{bytes_eq}
 use Rattle.swap_base.specs.Fault.{◌>>=◌}
 use Rattle.swap_digraph.specs.declared.deal.Deal.{Deal}
 use Rattle.ledger_core.specs.Book.{Histories}
-use Rattle.refusals.specs.declared.reason.Reason.{Reason}
-use Rattle.refusals.specs.declared.reason.Reason.TheVariants.{WrongWallet}
-use Rattle.refusals.specs.declared.refusal.Refusal.{Refusal}
-use Rattle.refusals.specs.Refusal.{refusal}
+use Rattle.command_input.specs.declared.reason.Reason.{Reason}
+use Rattle.command_input.specs.declared.reason.Reason.TheVariants.{WrongWallet}
+use Rattle.command_input.specs.declared.refusal.Refusal.{Refusal}
+use Rattle.command_input.specs.Refusal.{refusal}
 use Rattle.party_wallet.specs.Fits.{wrong_lock}
 use Rattle.told_ledgers.specs.declared.told_ledger.ToldLedger.{ToldLedger}
 use Rattle.told_ledgers.specs.Telling.{ledgers_told, told_book}
-use Rattle.party_lines.specs.Lines.{ended_lines, nameless, following_line_number}
-use Rattle.party_lines.specs.Names.{party_named}
-use Rattle.party_lines.specs.Digests.{agreed_line}
+use Rattle.party_rows.specs.Lines.{ended_lines, nameless, following_line_number}
+use Rattle.party_rows.specs.Names.{party_named}
+use Rattle.party_rows.specs.Digests.{agreed_line}
 use Rattle.party_answer.specs.Notes.{NotesState, notes_read}
 use Rattle.party_answer.specs.Kept.{KeptState, notes_kept}
 use Rattle.party_terms.specs.Terms.{AgreedState, parse_agreed}

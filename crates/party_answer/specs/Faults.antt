@@ -1,9 +1,9 @@
 -- Faults that answer.
 use Rattle.swap_base.specs.declared.fault.Fault.{Fault}
 use Rattle.swap_base.specs.declared.fault.Fault.TheVariants.{Refused, NoMemory}
-use Rattle.refusals.specs.declared.reason.Reason.{Reason}
-use Rattle.refusals.specs.declared.refusal.Refusal.{Refusal}
-use Rattle.party_lines.specs.Lines.{nameless}
+use Rattle.command_input.specs.declared.reason.Reason.{Reason}
+use Rattle.command_input.specs.declared.refusal.Refusal.{Refusal}
+use Rattle.party_rows.specs.Lines.{nameless}
 use Rattle.party_answer.specs.declared.reason.AnswerReason.{AnswerReason}
 use Rattle.party_answer.specs.declared.reason.AnswerReason.TheVariants as reasons
 

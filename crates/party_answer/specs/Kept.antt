@@ -9,11 +9,11 @@ use Rattle.hashkey_path.specs.declared.hashkey.Hashkey.{Hashkey}
 use Rattle.hashkey_path.specs.declared.hashkey.HashkeyAnswer.{HashkeyAnswer}
 use Rattle.hashkey_path.specs.declared.hashkey.HashkeyAnswer.TheVariants.{Valid}
 use Rattle.hashkey_path.specs.Hashkey.{hashkey_answer}
-use Rattle.refusals.specs.declared.reason.Reason.TheVariants.{BadLine}
-use Rattle.refusals.specs.declared.refusal.Refusal.{Refusal}
+use Rattle.command_input.specs.declared.reason.Reason.TheVariants.{BadLine}
+use Rattle.command_input.specs.declared.refusal.Refusal.{Refusal}
 use Rattle.party_wallet.specs.Value.{signed_hashkey}
 use Rattle.swap_rules.specs.Conduct.{is_first_key}
-use Rattle.party_lines.specs.Lines.{nameless, following_line_number}
+use Rattle.party_rows.specs.Lines.{nameless, following_line_number}
 use Rattle.party_answer.specs.declared.note.Note.{Note}
 use Rattle.party_answer.specs.declared.note.Note.TheVariants.{Keep, Sent}
 

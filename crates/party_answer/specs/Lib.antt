@@ -1,3 +1,5 @@
+pub mod Actions
+pub mod Asker
 pub mod Notes
 pub mod Kept
 pub mod NoteStates

@@ -2,13 +2,13 @@
 -- neither word.
 use Rattle.std.specs.Prelude.{ℕ, Bool, false, ◌||◌, List, [], ◌∷◌, ◌++◌, codes, Result, Ok, if◌then◌else◌}
 use Rattle.swap_base.specs.Fault.{◌>>=◌}
-use Rattle.refusals.specs.declared.refusal.Refusal.{Refusal}
-use Rattle.transcript_lines.specs.declared.said.Misspelling.{Misspelling}
-use Rattle.transcript_lines.specs.Between.{separated_parts}
-use Rattle.transcript_lines.specs.Reading.{misspelt, bounded_number, decimal_number, lower_hex_digest, parse_signature, listed_field, parse_first_field, first_field}
-use Rattle.transcript_lines.specs.Reading.{is_word, nothing_more}
-use Rattle.party_lines.specs.Lines.{following_line_number, or_bad_line}
-use Rattle.party_lines.specs.Digests.{this_word}
+use Rattle.command_input.specs.declared.refusal.Refusal.{Refusal}
+use Rattle.transcript_book.specs.declared.said.Misspelling.{Misspelling}
+use Rattle.transcript_book.specs.Between.{separated_parts}
+use Rattle.transcript_book.specs.Reading.{misspelt, bounded_number, decimal_number, lower_hex_digest, parse_signature, listed_field, parse_first_field, first_field}
+use Rattle.transcript_book.specs.Reading.{is_word, nothing_more}
+use Rattle.party_rows.specs.Lines.{following_line_number, or_bad_line}
+use Rattle.party_rows.specs.Digests.{this_word}
 use Rattle.party_answer.specs.declared.note.Note.{Note}
 use Rattle.party_answer.specs.declared.note.Note.TheVariants.{Keep, Sent}
 

@@ -15,7 +15,7 @@ use Rattle.swap_rules.specs.Machine.{IsWallet}
 use Rattle.swap_rules.specs.Rest.{are_ticks, rest_deadline}
 use Rattle.wallet_promise.specs.Life.{Asking, MayGo, MayKeep}
 use Rattle.wallet_promise.specs.Answers.{was_sent}
-use Rattle.told_books.specs.WithoutNoise.{SayEnough}
+use Rattle.wallet_promise.specs.WithoutNoise.{SayEnough}
 use Rattle.answer_rules.specs.Heights.{HasHeight}
 use Rattle.answer_rules.specs.Finished.{are_finished, ContinuesWithoutParty}
 use Rattle.answer_rules.specs.Stopped.{is_stopped_call}

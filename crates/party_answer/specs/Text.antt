@@ -11,11 +11,11 @@ use Rattle.ledger_core.specs.Book.{Histories}
 use Rattle.swap_rules.specs.Due.{Action, Wallet}
 use Rattle.swap_rules.specs.Useful.{useful}
 use Rattle.swap_rules.specs.Rest.{rest_deadline}
-use Rattle.refusals.specs.Words.{reply_text}
+use Rattle.command_input.specs.Words.{reply_text}
 use Rattle.party_wallet.specs.Value.{signed_hashkey}
 use Rattle.party_machine.specs.Wallet.{seed_wallet}
-use Rattle.transcript_lines.specs.Between.{spaced}
-use Rattle.transcript_lines.specs.Words.{call_words, list_word, signature_word}
+use Rattle.transcript_book.specs.Between.{spaced}
+use Rattle.transcript_book.specs.Words.{call_words, list_word, signature_word}
 use Rattle.answer_rules.specs.Finished.{are_finished}
 use Rattle.answer_rules.specs.Stopped.{unstopped}
 use Rattle.told_ledgers.specs.declared.told_ledger.BadEntry.{BadEntry}

@@ -12,20 +12,21 @@ ghost use Rattle.party_answer.specs.Inside.{asked_question, calls_text, said_sta
 ghost use Rattle.party_answer.specs.Text.{answer_told, answered_calls, bad_lines, lines_answer, question_answer, said_answer, unkept, unkept_text};
 ghost use Rattle.party_answer.specs.Promised.{IsTextAnswer, IsPromisedAnswer, NeedsAgreement};
 
+use crate::all::all_useful;
 use crate::asked::{Asked, said_asked};
 use crate::calls::with_heights;
 use crate::given::Answer;
 use crate::line::put_lines;
 use crate::reason::{AnswerFault, refusal_fault};
 use crate::said::{Said, read_said};
+use crate::signer::Signer;
 use crate::text::{is_any_bad, put_all_unkept, put_end, put_ledgers};
 use crate::timed::Timed;
 use crate::unkept::{Unkept, all_unkept, stopped_locks};
 use history_index::Index;
 use ledger_core::Book;
 use outcome_rules::build_indexes;
-use party_due::{Signer, all_useful};
-use party_lines::ended_lines;
+use party_rows::ended_lines;
 use std::alloc::Global;
 use swap_base::{ByteText, Digest, Listed, NoMemory, TryCopy};
 use told_ledgers::ToldLedger;

@@ -17,10 +17,10 @@ ghost use Rattle.party_answer.specs.Inside.{asked_question, said_state, IsWellAs
 use crate::kept::{Kept, notes_kept};
 use crate::reason::{AnswerFault, AnswerReason, reason_fault, refusal_fault};
 use crate::said::Said;
+use command_input::{HeaderFault, Reason, Refusal};
 use ledger_core::share_deal;
-use party_lines::party_named;
+use party_rows::party_named;
 use party_wallet::Wallet;
-use refusals::{HeaderFault, Reason, Refusal};
 use std::alloc::Global;
 use swap_base::{Digest, Fault, Listed, LockId, NoMemory, PartyId, Shared, TryCopy};
 use swap_digraph::Deal;

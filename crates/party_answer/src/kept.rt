@@ -4,17 +4,17 @@ ghost use Rattle.std.specs.Prelude.{◌≡◌, ◌<◌, true, IfOk, length, opti
 ghost use Rattle.swap_base.specs.Fault.{Gives};
 ghost use Rattle.swap_digraph.specs.Deal.{IsWellSized};
 ghost use Rattle.swap_digraph.specs.Graph.{entering, is_listed, leaving};
-ghost use Rattle.refusals.specs.declared.reason.Reason.TheVariants.{BadLine};
+ghost use Rattle.command_input.specs.declared.reason.Reason.TheVariants.{BadLine};
 ghost use Rattle.party_wallet.specs.Value.{signed_hashkey};
 ghost use Rattle.party_answer.specs.NoteStates.{kept_state, AreGoodKeptKeys};
 ghost use Rattle.party_answer.specs.Kept.{is_keepable, may_be_kept, notes_kept, opens_arc, opens_first, with_note, with_notes};
 
 use crate::note::Note;
+use command_input::{HeaderFault, Reason};
+use conduct_check::is_first_key;
 use hashkey_path::{Hashkey, HashkeyAnswer, check};
-use party_lines::refused;
+use party_rows::refused;
 use party_wallet::Signed;
-use refusals::{HeaderFault, Reason};
-use sent_keys::is_first_key;
 use std::alloc::Global;
 use swap_base::{ArcId, Listed, LockId, NoMemory, PartyId, Shared, TryCopy};
 use swap_digraph::Deal;

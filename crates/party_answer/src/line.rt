@@ -12,13 +12,13 @@ ghost use Rattle.party_answer.specs.Growing.{asking_text, unkept_key, GrowsByLin
 use crate::kept::Kept;
 use crate::timed::Timed;
 use crate::unkept::kept_key;
+use conduct_check::is_first_key;
 use hashkey_path::Hashkey;
 use ledger_core::Call;
 use party_wallet::Signed;
-use sent_keys::is_first_key;
+use run_texts::{put_call, put_digits, put_path, put_signatures};
 use swap_base::{ArcId, LockId, NoMemory, PartyId, Piece, put};
 use swap_digraph::is_listed;
-use transcript_writer::{put_call, put_digits, put_path, put_signatures};
 
 /// Appends the last height at which the contract accepts a hashkey, if there is one.
 fn put_last_height(out: &mut Vec<u8>, until: Option<u64>) -> Result<(), NoMemory>

@@ -5,9 +5,9 @@ ghost use Rattle.swap_base.specs.Fault.{Gives};
 ghost use Rattle.transcript_book.specs.Taking.{Takes};
 ghost use Rattle.party_answer.specs.Notes.{heights_told, is_note, keep_noted, line_noted, pick_note, sent_noted, words_noted};
 
+use command_input::{HeaderFault, Reason};
 use hashkey_path::Hashkey;
-use party_lines::{refused, this_word};
-use refusals::{HeaderFault, Reason};
+use party_rows::{refused, this_word};
 use std::alloc::Global;
 use swap_base::{ArcId, Fault, Shared};
 use transcript_book::{

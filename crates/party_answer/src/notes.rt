@@ -1,12 +1,12 @@
 //! The notes that stand first among lines.
 
 ghost use Rattle.std.specs.Prelude.{◌≡◌, ◌∷◌, MatchOption, true};
-ghost use Rattle.party_lines.specs.Lines.{TakesFirstLine};
+ghost use Rattle.party_rows.specs.Lines.{TakesFirstLine};
 ghost use Rattle.party_answer.specs.NoteStates.{notes_state, IsBehindNotes};
 ghost use Rattle.party_answer.specs.Notes.{is_note as is_note_line, notes_read};
 
 use crate::note::{Note, is_note, line_noted};
-use refusals::HeaderFault;
+use command_input::HeaderFault;
 use std::alloc::Global;
 use swap_base::Listed;
 use transcript_book::Parts;

@@ -3,7 +3,7 @@
 ghost use Rattle.std.specs.Prelude.{◌≡◌};
 ghost use Rattle.party_answer.specs.Faults.{reason_fault, refusal_fault};
 
-use refusals::{HeaderFault, OfferFault, Refusal, nameless};
+use command_input::{HeaderFault, OfferFault, Refusal, nameless};
 use std::alloc::Global;
 use swap_base::{Digest, Fault};
 

@@ -1,15 +1,15 @@
 //! What an input says before its first ledger.
 
 ghost use Rattle.std.specs.Prelude.{IfOk};
-ghost use Rattle.party_lines.specs.Lines.{TakesFirstLine};
+ghost use Rattle.party_rows.specs.Lines.{TakesFirstLine};
 ghost use Rattle.party_terms.specs.Inside.{IsAgreedJob};
 ghost use Rattle.party_answer.specs.Asked.{lines_said};
 ghost use Rattle.party_answer.specs.Inside.{said_state};
 
 use crate::notes::{Notes, read_notes};
-use party_lines::agreed_line;
+use command_input::HeaderFault;
+use party_rows::agreed_line;
 use party_terms::{Agreed, read_agreed};
-use refusals::HeaderFault;
 use std::alloc::Global;
 use swap_base::Digest;
 use transcript_book::Parts;

@@ -9,9 +9,9 @@ ghost use Rattle.party_answer.specs.Text.{bad_entry_line, bad_lines, bad_text, e
 use crate::timed::Timed;
 use crate::unkept::Unkept;
 use answer_rules::are_finished;
+use command_input::put_reply;
 use due_calls::rest_deadline;
 use history_index::Index;
-use refusals::put_reply;
 use swap_base::{ArcId, NoMemory, PartyId, Piece, put};
 use swap_digraph::Deal;
 use told_ledgers::{BadEntry, Replies, ToldLedger};

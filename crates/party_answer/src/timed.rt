@@ -3,16 +3,16 @@
 ghost use Rattle.std.specs.Prelude.{◌≡◌, ◌<◌, IfOk, length};
 ghost use Rattle.swap_digraph.specs.Deal.{IsWellSized};
 ghost use Rattle.history_index.specs.Indexes.{all_entries, AreIndexes};
-ghost use Rattle.sent_keys.specs.Sent.{party_unlocks, shown};
-ghost use Rattle.party_due.specs.Actions.{due_call_action};
+ghost use Rattle.conduct_check.specs.Sent.{party_unlocks, shown};
+ghost use Rattle.party_answer.specs.Actions.{due_call_action};
 ghost use Rattle.answer_rules.specs.Heights.{IsShort};
 ghost use Rattle.party_answer.specs.Lines.{timed};
 
+use crate::due_call::DueCall;
 use answer_rules::{last_accepted, last_on_time};
 use hashkey_path::Hashkey;
 use history_index::Index;
 use ledger_core::Call;
-use party_due::DueCall;
 use swap_base::{ArcId, NoMemory, PartyId, TryCopy};
 use swap_digraph::Deal;
 

@@ -5,9 +5,9 @@ ghost use Rattle.swap_rules.specs.Conduct.{is_first_key as is_first};
 ghost use Rattle.party_wallet.specs.Value.{signed_hashkey};
 ghost use Rattle.party_answer.specs.Unkept.{all_unkept, has_lock, stopped_locks, with_unlock, with_unlocks};
 
+use conduct_check::is_first_key;
 use hashkey_path::Hashkey;
 use party_wallet::Signed;
-use sent_keys::is_first_key;
 use std::alloc::Global;
 use swap_base::{ArcId, LockId, NoMemory};
 use told_ledgers::{OwnUnlock, ToldLedger};

@@ -2,10 +2,10 @@
 -- it.
 use Rattle.std.specs.Prelude.{◌≡◌, ◌==◌, ℕ, List, [], ◌∷◌, Result, Ok, Err, if◌then◌else◌}
 use Rattle.swap_base.specs.Fault.{◌>>=◌}
-use Rattle.refusals.specs.declared.reason.Reason.TheVariants.{CutShort}
-use Rattle.refusals.specs.declared.refusal.Refusal.{Refusal}
-use Rattle.party_lines.specs.Digests as digests
-use Rattle.party_lines.specs.Lines.{is_ended, nameless}
+use Rattle.command_input.specs.declared.reason.Reason.TheVariants.{CutShort}
+use Rattle.command_input.specs.declared.refusal.Refusal.{Refusal}
+use Rattle.party_rows.specs.Digests as digests
+use Rattle.party_rows.specs.Lines.{is_ended, nameless}
 use Rattle.party_answer.specs.declared.given.Answer.{Answer}
 use Rattle.party_answer.specs.declared.reason.AnswerReason.{AnswerReason}
 use Rattle.party_answer.specs.declared.reason.AnswerReason.TheVariants.{Refused}

@@ -1,6 +1,6 @@
 -- What the program `party` writes of an input, by its command, or the first reason against it.
 use Rattle.std.specs.Prelude.{ℕ, false, List, Result, Ok, Err}
-use Rattle.refusals.specs.declared.refusal.Refusal.{Refusal}
+use Rattle.command_input.specs.declared.refusal.Refusal.{Refusal}
 use Rattle.party_rows.specs.declared.reason.DealReason.{DealReason}
 use Rattle.party_rows.specs.Dealt.{IsDealtText}
 use Rattle.party_rows.specs.Keys.{deal_output, keys_output}

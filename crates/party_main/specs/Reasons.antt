@@ -4,7 +4,7 @@ use Rattle.hex.specs.Hex.{encode_lower}
 use Rattle.swap_base.specs.declared.fault.Fault.{Fault}
 use Rattle.swap_base.specs.declared.fault.Fault.TheVariants as faults
 use Rattle.swap_base.specs.Text.{joined}
-use Rattle.refusals.specs.declared.refusal.Refusal.{Refusal}
+use Rattle.command_input.specs.declared.refusal.Refusal.{Refusal}
 use Rattle.command_input.specs.StandardError.{refusal_text}
 use Rattle.party_rows.specs.declared.reason.DealReason.{DealReason}
 use Rattle.party_rows.specs.declared.reason.DealReason.TheVariants as deals

@@ -3,7 +3,7 @@
 ghost use Rattle.std.specs.Prelude.{◌≡◌, map, string_bytes};
 ghost use Rattle.party_main.specs.Words.{nameless_command, words_party_command, command_input_limit, named_command};
 
-use offer_fields::TextRef;
+use offer_moves::TextRef;
 
 /// The most bytes of an input of `keys`, `deal` or `terms`.
 ///

@@ -3,12 +3,12 @@
 
 ghost use Rattle.std.specs.Prelude.{◌≡◌, IfOk};
 ghost use Rattle.swap_base.specs.Fault.{Gives};
-ghost use Rattle.party_lines.specs.Lines.{is_ended};
+ghost use Rattle.party_rows.specs.Lines.{is_ended};
 ghost use Rattle.party_main.specs.Next.{answer_parts, cut_short, ended_output, next_output, read_first_seed_line, IsPartsAnswer, IsInputAnswer};
 
+use command_input::{Reason, nameless};
 use memchr::memchr;
 use party_answer::{Answer, AnswerFault, AnswerReason, answer};
-use refusals::{Reason, nameless};
 use std::alloc::Global;
 use swap_base::{Digest, Fault};
 
@@ -22,7 +22,7 @@ fn cut_short(alloc: Global) -> AnswerFault
 fn read_first_seed_line(alloc: Global, line: &[u8]) -> Result<Digest, AnswerFault>
     ensures { Gives (λ d. d) result (read_first_seed_line line.now) }
 {
-    match party_lines::read_seed_line(alloc, 1, line) {
+    match party_rows::read_seed_line(alloc, 1, line) {
         Ok(seed) => Ok(seed),
         Err(Fault::Refused(refusal)) => Err(Fault::Refused(AnswerReason::Refused(refusal))),
         Err(Fault::NoMemory) => Err(Fault::NoMemory),

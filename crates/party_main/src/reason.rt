@@ -4,13 +4,12 @@ ghost use Rattle.std.specs.Prelude.{◌≡◌, IfOk};
 ghost use Rattle.command_input.specs.StandardError.{refusal_text};
 ghost use Rattle.party_main.specs.Reasons.{answer_fault, answer_line, deal_fault, deal_line, header_fault, reason_line};
 
-use command_input::refusal_text;
+use command_input::{HeaderFault, Refusal, refusal_text};
 use party_answer::{AnswerFault, AnswerReason};
 use party_rows::{DealFault, DealReason};
-use refusals::{HeaderFault, Refusal};
+use run_texts::put_digits;
 use std::alloc::Global;
 use swap_base::{ByteText, Digest, Fault, NoMemory, Piece, put};
-use transcript_writer::put_digits;
 
 /// Why nothing is written.
 #[derive(Debug, Drop)]

@@ -5,10 +5,10 @@ use Rattle.std.proofs.lemmas.Bool.{leb-true, eqb-false}
 use Rattle.std.proofs.lemmas.List.{get_or-replicate, get_or-set_other, length-replicate, length-set}
 use Rattle.std.proofs.lemmas.Grind.{get_or-set_at}
 use Rattle.swap_digraph.specs.declared.deal.Deal.{Deal}
-use Rattle.refusals.specs.declared.reason.Reason.{Reason}
-use Rattle.refusals.specs.declared.reason.Reason.TheVariants.{OverLimit}
-use Rattle.refusals.specs.Refusal.{named_result}
-use Rattle.offer_fields.specs.Limits.{check_range}
+use Rattle.command_input.specs.declared.reason.Reason.{Reason}
+use Rattle.command_input.specs.declared.reason.Reason.TheVariants.{OverLimit}
+use Rattle.command_input.specs.Refusal.{named_result}
+use Rattle.offer_moves.specs.FieldLimits.{check_range}
 use Rattle.party_rows.specs.declared.row.Row.{Row}
 use Rattle.party_rows.specs.Rows.{keys_wanted, right_keys, find_row, AreDealRows}
 

@@ -5,8 +5,8 @@ use Rattle.std.proofs.lemmas.List.{append-nil}
 use Rattle.hex.specs.Hex.{encode_lower}
 use Rattle.swap_base.specs.Text.{lines}
 use Rattle.swap_base.proofs.Lines.{appended}
-use Rattle.transcript_lines.specs.Between.{between}
-use Rattle.transcript_lines.specs.Words.{list_word}
+use Rattle.transcript_book.specs.Between.{between}
+use Rattle.transcript_book.specs.Words.{list_word}
 use Rattle.party_rows.specs.declared.row.Row.{Row}
 use Rattle.party_rows.specs.Inside.{comma_digest}
 use Rattle.party_rows.specs.Row.{hashlock_word, row_line}

@@ -10,7 +10,7 @@ use Rattle.swap_digraph.specs.declared.deal.Mode.{Mode}
 use Rattle.swap_digraph.specs.declared.deal.Mode.TheVariants.{Timelocks, Hashkeys}
 use Rattle.swap_rules.specs.Party.{leads_one}
 use Rattle.swap_job.specs.declared.job.Purpose.TheVariants.{Audit}
-use Rattle.proposed_deal.specs.Proposed.{IsProposed}
+use Rattle.swap_offer.specs.Proposed.{IsProposed}
 use Rattle.hashkey_path.specs.Digest.{deal_id}
 use Rattle.swap_gen.specs.Made.{all_keys, all_timelocks, seed_filled_deal, seed_hashlock, seed_keys, made_deal, seed_or_zeros}
 use Rattle.party_rows.specs.declared.row.Row.{Row}

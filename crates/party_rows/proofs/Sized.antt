@@ -14,7 +14,7 @@ use Rattle.swap_digraph.specs.declared.deal.Version.TheVariants.{One, Two}
 use Rattle.hashkey_path.specs.Digest.{deal_id}
 use Rattle.hashkey_path.proofs.Feeding.{any_id}
 use Rattle.swap_rules.specs.Accepted.{IsAccepted, IsOfVersion, IsTimed}
-use Rattle.proposed_deal.specs.Proposed.{IsProposed}
+use Rattle.swap_offer.specs.Proposed.{IsProposed}
 use Rattle.swap_gen.specs.Made.{all_timelocks, made_deal}
 use Rattle.swap_gen.proofs.Accepting.{filled_is_sized, made_is_accepted}
 use Rattle.party_rows.specs.declared.row.Row.{Row}

@@ -4,8 +4,8 @@ use Rattle.hex.specs.Hex.{encode_lower}
 use Rattle.swap_base.specs.declared.fault.Fault.{Fault}
 use Rattle.swap_base.specs.declared.fault.Fault.TheVariants.{Refused, NoMemory}
 use Rattle.swap_job.specs.declared.job.Job.{Job}
-use Rattle.refusals.specs.declared.refusal.Refusal.{Refusal}
-use Rattle.proposed_deal.specs.Proposed.{IsProposed}
+use Rattle.command_input.specs.declared.refusal.Refusal.{Refusal}
+use Rattle.swap_offer.specs.Proposed.{IsProposed}
 use Rattle.offer_header.specs.Names.{AreNames}
 use Rattle.swap_offer.specs.Job.{IsWholeJob}
 use Rattle.party_rows.specs.declared.dealing.Dealing.{Dealing}

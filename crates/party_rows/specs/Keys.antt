@@ -2,10 +2,10 @@
 use Rattle.std.specs.Prelude.{ℕ, List, slice_index_or, [], Option, Some, None, Result, Ok, Err}
 use Rattle.swap_base.specs.Fault.{◌>>=◌}
 use Rattle.swap_job.specs.declared.job.Job.{Job}
-use Rattle.refusals.specs.declared.refusal.Refusal.{Refusal}
-use Rattle.party_lines.specs.Digests.{seed_line}
-use Rattle.party_lines.specs.Lines.{first_line, ended_lines, no_line}
-use Rattle.party_lines.specs.Names.{party_named}
+use Rattle.command_input.specs.declared.refusal.Refusal.{Refusal}
+use Rattle.party_rows.specs.Digests.{seed_line}
+use Rattle.party_rows.specs.Lines.{first_line, ended_lines, no_line}
+use Rattle.party_rows.specs.Names.{party_named}
 use Rattle.party_rows.specs.declared.row.Row.{Row}
 use Rattle.party_rows.specs.declared.reason.DealReason.{DealReason}
 use Rattle.party_rows.specs.declared.reason.DealReason.TheVariants.{Refused, NoRow}

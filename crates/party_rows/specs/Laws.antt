@@ -4,7 +4,7 @@ use Rattle.std.specs.List.{range_with_len}
 use Rattle.swap_digraph.specs.declared.deal.Deal.{Deal}
 use Rattle.swap_job.specs.declared.job.Job.{Job}
 use Rattle.swap_job.specs.declared.job.Purpose.TheVariants.{Audit}
-use Rattle.proposed_deal.specs.Proposed.{IsProposed}
+use Rattle.swap_offer.specs.Proposed.{IsProposed}
 use Rattle.swap_gen.specs.Made.{made_deal, seed_or_zeros}
 use Rattle.party_rows.specs.declared.row.Row.{Row}
 use Rattle.party_rows.specs.Dealt.{dealt, dealt_deal, dealt_line}

@@ -1,3 +1,6 @@
+pub mod Lines
+pub mod Digests
+pub mod Names
 pub mod Offer
 pub mod Row
 pub mod Rows

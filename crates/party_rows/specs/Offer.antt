@@ -5,16 +5,16 @@ use Rattle.swap_base.specs.Fault.{◌>>=◌}
 use Rattle.swap_digraph.specs.Value.{Graph}
 use Rattle.swap_job.specs.declared.job.Job.{Job}
 use Rattle.swap_job.specs.declared.job.Purpose.TheVariants.{Make}
-use Rattle.refusals.specs.declared.reason.Reason.{Reason}
-use Rattle.refusals.specs.declared.reason.Reason.TheVariants.{UnknownField}
-use Rattle.refusals.specs.declared.refusal.Refusal.{Refusal}
-use Rattle.refusals.specs.Refusal.{named_result}
+use Rattle.command_input.specs.declared.reason.Reason.{Reason}
+use Rattle.command_input.specs.declared.reason.Reason.TheVariants.{UnknownField}
+use Rattle.command_input.specs.declared.refusal.Refusal.{Refusal}
+use Rattle.command_input.specs.Refusal.{named_result}
 use Rattle.offer_header.specs.declared.header.Header.{Header}
 use Rattle.offer_header.specs.Header.{parse_whole_header}
 use Rattle.offer_header.specs.Names.{no_strategy}
 use Rattle.swap_offer.specs.Checks.{admitted, assemble_job}
 use Rattle.swap_offer.specs.Job.{header_names}
-use Rattle.party_lines.specs.Lines.{short_header}
+use Rattle.party_rows.specs.Lines.{short_header}
 
 -- no party's seed is told
 unfoldable pub no_seed_told : ℕ → List (Option (List ℕ)) → Result (Unit {0}) Reason

@@ -9,11 +9,11 @@ use Rattle.swap_digraph.specs.Deal.{locks}
 use Rattle.hash_signature.specs.Signature.{hashed_value, derive_secret, derive_public_key}
 use Rattle.swap_rules.specs.Party.{leads_one}
 use Rattle.offer_header.specs.Names.{is_name}
-use Rattle.transcript_lines.specs.declared.said.Misspelling.{Misspelling}
-use Rattle.transcript_lines.specs.Between.{separated_parts, spaced}
-use Rattle.transcript_lines.specs.Reading.{misspelt, lower_hex_digest, parse_first_field, is_word, listed_field, nothing_more}
-use Rattle.transcript_lines.specs.Words.{list_word}
-use Rattle.party_lines.specs.Digests.{this_word}
+use Rattle.transcript_book.specs.declared.said.Misspelling.{Misspelling}
+use Rattle.transcript_book.specs.Between.{separated_parts, spaced}
+use Rattle.transcript_book.specs.Reading.{misspelt, lower_hex_digest, parse_first_field, is_word, listed_field, nothing_more}
+use Rattle.transcript_book.specs.Words.{list_word}
+use Rattle.party_rows.specs.Digests.{this_word}
 use Rattle.party_rows.specs.declared.row.Row.{Row}
 use Rattle.party_rows.specs.declared.row.NamedRow.{NamedRow}
 

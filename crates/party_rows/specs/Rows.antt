@@ -7,12 +7,12 @@ use Rattle.swap_digraph.specs.declared.deal.Mode.{Mode}
 use Rattle.swap_digraph.specs.declared.deal.Mode.TheVariants.{Timelocks, Hashkeys}
 use Rattle.swap_rules.specs.Party.{leads_one}
 use Rattle.swap_job.specs.declared.job.Job.{Job}
-use Rattle.refusals.specs.declared.reason.Reason.TheVariants.{Duplicate}
-use Rattle.refusals.specs.declared.refusal.Refusal.{Refusal}
-use Rattle.refusals.specs.Refusal.{named_result}
-use Rattle.offer_fields.specs.Limits.{check_range}
-use Rattle.party_lines.specs.Lines.{nameless, following_line_number, or_bad_line}
-use Rattle.party_lines.specs.Names.{party_named}
+use Rattle.command_input.specs.declared.reason.Reason.TheVariants.{Duplicate}
+use Rattle.command_input.specs.declared.refusal.Refusal.{Refusal}
+use Rattle.command_input.specs.Refusal.{named_result}
+use Rattle.offer_moves.specs.FieldLimits.{check_range}
+use Rattle.party_rows.specs.Lines.{nameless, following_line_number, or_bad_line}
+use Rattle.party_rows.specs.Names.{party_named}
 use Rattle.party_rows.specs.declared.row.Row.{Row}
 use Rattle.party_rows.specs.declared.row.NamedRow.{NamedRow}
 use Rattle.party_rows.specs.Row.{parse_row}

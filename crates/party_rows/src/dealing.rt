@@ -8,12 +8,12 @@ ghost use Rattle.party_rows.specs.Keys.{deal_output, parse_dealing_lines, parse_
 ghost use Rattle.party_rows.specs.Rows.{first_missing};
 
 use crate::dealt::dealt_text;
+use crate::lines::{ended_lines, first_line};
 use crate::offer::offer;
 use crate::reason::{DealFault, DealReason, deal_fault_by_refusal};
 use crate::row::Row;
 use crate::rows::parse_rows;
-use party_lines::{ended_lines, first_line};
-use refusals::HeaderFault;
+use command_input::HeaderFault;
 use std::alloc::Global;
 use swap_base::{ByteText, Fault, Listed};
 use swap_job::Job;

@@ -3,7 +3,7 @@
 ghost use Rattle.std.specs.Prelude.{◌≡◌, IfOk, None, map};
 ghost use Rattle.std.specs.List.{range_with_len};
 ghost use Rattle.swap_rules.specs.Accepted.{IsAccepted};
-ghost use Rattle.proposed_deal.specs.Proposed.{IsProposed};
+ghost use Rattle.swap_offer.specs.Proposed.{IsProposed};
 ghost use Rattle.party_rows.specs.Dealt.{all_told_keys, dealt, dealt_deal, dealt_line, told_hashlock, told_keys, IsDealtText};
 ghost use Rattle.party_rows.specs.Inside.{IsOffered};
 ghost use Rattle.party_rows.specs.Rows.{first_missing, AreDealRows};

@@ -4,7 +4,7 @@ ghost use Rattle.std.specs.Prelude.{◌≡◌, IfOk, is_none, length};
 ghost use Rattle.std.specs.List.{list_all};
 ghost use Rattle.swap_base.specs.Fault.{Gives};
 ghost use Rattle.swap_digraph.specs.Graph.{HasEnds};
-ghost use Rattle.refusals.specs.Refusal.{named_result};
+ghost use Rattle.command_input.specs.Refusal.{named_result};
 ghost use Rattle.offer_header.specs.Header.{IsHeaderInLimits};
 ghost use Rattle.offer_header.specs.Names.{no_strategy};
 ghost use Rattle.swap_offer.specs.Checks.{header_deal, IsAcceptedOrProposed};
@@ -12,9 +12,9 @@ ghost use Rattle.swap_offer.specs.Job.{header_names};
 ghost use Rattle.party_rows.specs.Inside.{IsOffered};
 ghost use Rattle.party_rows.specs.Offer.{examined, parse_offer, parse_plain, proposed_job, no_seed_told};
 
+use crate::lines::short_header;
+use command_input::{HeaderFault, OfferFault, unknown_field, with_names};
 use offer_header::{Header, parse_header};
-use party_lines::short_header;
-use refusals::{HeaderFault, OfferFault, unknown_field, with_names};
 use std::alloc::Global;
 use swap_base::{Digest, Listed};
 use swap_digraph::Digraph;
@@ -54,7 +54,7 @@ fn examined(alloc: Global, line: u32, header: &Header) -> Result<Digraph, OfferF
 }
 
 /// The job that a header proposes; the reason against it takes the header's names.
-#[tactic(auto, using(swap_offer::proofs::Size::is_sized, refusals::proofs::Named::fails), unfolding(crate::specs::Offer::proposed_job))]
+#[tactic(auto, using(swap_offer::proofs::Size::is_sized, command_input::proofs::Named::fails), unfolding(crate::specs::Offer::proposed_job))]
 fn proposed(alloc: Global, line: u32, header: Header) -> Result<Job, HeaderFault>
     requires within { IsHeaderInLimits header }
     requires plain { header.purpose ≡ Purpose.Make }
@@ -68,7 +68,7 @@ fn proposed(alloc: Global, line: u32, header: Header) -> Result<Job, HeaderFault
 }
 
 /// The job that a line proposes.
-#[tactic(auto, using(refusals::proofs::Named::fails), unfolding(crate::specs::Offer::parse_plain, swap_offer::specs::Job::header_names))]
+#[tactic(auto, using(command_input::proofs::Named::fails), unfolding(crate::specs::Offer::parse_plain, swap_offer::specs::Job::header_names))]
 fn plain(alloc: Global, line: u32, text: &[u8]) -> Result<Job, HeaderFault>
     ensures exact { Gives (λ j. j) result (named_result (header_names no_strategy Purpose.Make line text.now) (parse_plain line text.now)) }
     ensures offered { IfOk result IsOffered }

@@ -3,7 +3,7 @@
 ghost use Rattle.std.specs.Prelude.{◌≡◌};
 ghost use Rattle.party_rows.specs.Inside.{deal_fault_by_refusal};
 
-use refusals::{HeaderFault, Refusal};
+use command_input::{HeaderFault, Refusal};
 use swap_base::{ByteText, Fault};
 
 /// Why no deal is made.

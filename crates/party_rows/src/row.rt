@@ -5,13 +5,13 @@ ghost use Rattle.std.specs.List.{range_with_len};
 ghost use Rattle.swap_base.specs.Fault.{Gives};
 ghost use Rattle.hash_signature.specs.Signature.{derive_public_key};
 ghost use Rattle.transcript_book.specs.Taking.{Takes};
-ghost use Rattle.transcript_lines.specs.Reading.{lower_hex_digest, parse_each_word, parse_first_field, listed_field};
+ghost use Rattle.transcript_book.specs.Reading.{lower_hex_digest, parse_each_word, parse_first_field, listed_field};
 ghost use Rattle.party_rows.specs.Row.{seeded_hashlock, hashlock_said, seeded_keys, name_said, seeded_row, parse_row, row_said};
 
+use crate::digests::this_word;
 use due_calls::leads_one;
 use hash_signature::{derive_secret, hashed_value, keygen};
 use offer_header::is_name;
-use party_lines::this_word;
 use std::alloc::Global;
 use swap_base::{ByteText, Digest, Listed, NoMemory, PartyId};
 use swap_digraph::{Deal, Mode};
@@ -106,7 +106,7 @@ fn name_said(alloc: Global, word: &[u8]) -> Result<ByteText, WordFault>
     }
 }
 
-#[tactic(auto, unfolding(transcript_lines::specs::Reading::parse_first_field))]
+#[tactic(auto, unfolding(transcript_book::specs::Reading::parse_first_field))]
 fn name_field(alloc: Global, fields: &mut Parts<'_>) -> Result<ByteText, WordFault>
     ensures { Takes (λ n. n) result fields.new (parse_first_field name_said fields.old) }
 {
@@ -122,7 +122,7 @@ fn hashlock_said(word: &[u8]) -> Result<Option<Digest>, WordFault>
     Ok(Some(lower_hex_digest(word)?))
 }
 
-#[tactic(auto, unfolding(transcript_lines::specs::Reading::parse_first_field))]
+#[tactic(auto, unfolding(transcript_book::specs::Reading::parse_first_field))]
 fn hashlock_field(fields: &mut Parts<'_>) -> Result<Option<Digest>, WordFault>
     ensures { Takes (λ o. o) result fields.new (parse_first_field hashlock_said fields.old) }
 {
@@ -149,7 +149,7 @@ fn parse_digests(alloc: Global, word: &[u8]) -> Result<Listed<Digest>, WordFault
     each_digest(alloc, &mut Parts::new(b',', word))
 }
 
-#[tactic(auto, unfolding(transcript_lines::specs::Reading::parse_first_field))]
+#[tactic(auto, unfolding(transcript_book::specs::Reading::parse_first_field))]
 fn digests_field(alloc: Global, fields: &mut Parts<'_>) -> Result<Listed<Digest>, WordFault>
     ensures { Takes (λ l. l) result fields.new (parse_first_field (listed_field lower_hex_digest) fields.old) }
 {

@@ -3,14 +3,14 @@
 ghost use Rattle.std.specs.Prelude.{◌≡◌, ◌∷◌, ◌++◌, OnOk, IfOk, map};
 ghost use Rattle.hex.specs.Hex.{encode_lower};
 ghost use Rattle.swap_base.specs.Text.{lines};
-ghost use Rattle.transcript_lines.specs.Words.{list_word};
+ghost use Rattle.transcript_book.specs.Words.{list_word};
 ghost use Rattle.party_rows.specs.Inside.{comma_digest};
 ghost use Rattle.party_rows.specs.Row.{hashlock_word, row_line};
 
 use crate::row::Row;
+use run_texts::put_digits;
 use std::alloc::Global;
 use swap_base::{ByteText, Digest, NoMemory, Piece, put};
-use transcript_writer::put_digits;
 
 fn put_next_digest(out: &mut Vec<u8>, digest: &Digest) -> Result<(), NoMemory>
     ensures { OnOk result (out.new.items ≡ out.old.items ++ comma_digest 0 digest.now) }

@@ -2,17 +2,18 @@
 
 ghost use Rattle.std.specs.Prelude.{◌≡◌, ◌<◌, IfOk, None, replicate};
 ghost use Rattle.swap_base.specs.Fault.{Gives};
-ghost use Rattle.party_lines.specs.Lines.{or_bad_line};
+ghost use Rattle.party_rows.specs.Lines.{or_bad_line};
 ghost use Rattle.party_rows.specs.Inside.{IsOffered};
 ghost use Rattle.party_rows.specs.Row.{parse_row as row_of_line};
 ghost use Rattle.party_rows.specs.Rows.{check_first, count_hashlocks, hashlocks_wanted, keys_wanted, right_hashlock, right_keys, parse_rows};
 ghost use Rattle.party_rows.specs.Rows.{with_party_row, with_row, with_rows, AreDealRows};
 
+use crate::lines::refused;
+use crate::names::party_named;
 use crate::row::{NamedRow, Row, parse_row};
+use command_input::{HeaderFault, Reason, with_names};
 use due_calls::leads_one;
-use offer_fields::check_range;
-use party_lines::{party_named, refused};
-use refusals::{HeaderFault, Reason, with_names};
+use offer_moves::check_range;
 use std::alloc::Global;
 use swap_base::{ByteText, Fault, Listed, NoMemory, PartyId};
 use swap_digraph::{Deal, Mode};
@@ -64,7 +65,7 @@ fn hashlocks_wanted(leads: bool) -> u64
 }
 
 /// The row has a hashlock exactly where its party leads.
-#[tactic(auto, using(refusals::proofs::Named::fails), unfolding(crate::specs::Rows::right_hashlock))]
+#[tactic(auto, using(command_input::proofs::Named::fails), unfolding(crate::specs::Rows::right_hashlock))]
 fn right_hashlock(alloc: Global, line: u32, leads: bool, row: &Row) -> Result<(), HeaderFault>
     ensures { Gives (λ u. u) result (right_hashlock line leads row.now) }
 {
@@ -92,7 +93,7 @@ fn keys_wanted(deal: &Deal) -> u64
 }
 
 /// The row has a key for each lock, with timelocks none.
-#[tactic(auto, using(refusals::proofs::Named::fails), unfolding(crate::specs::Rows::right_keys))]
+#[tactic(auto, using(command_input::proofs::Named::fails), unfolding(crate::specs::Rows::right_keys))]
 fn right_keys(alloc: Global, line: u32, deal: &Deal, row: &Row) -> Result<(), HeaderFault>
     ensures { Gives (λ u. u) result (right_keys line deal.now row.now) }
 {

@@ -4,11 +4,13 @@ ghost use Rattle.swap_base.specs.Fault.{Gives};
 ghost use Rattle.party_rows.specs.Inside.{IsOffered};
 ghost use Rattle.party_rows.specs.Keys.{keys_from_lines, keys_output, own_row_output, row_from_lines, row_of_name};
 
+use crate::digests::seed_line;
+use crate::lines::{ended_lines, first_line, no_line};
+use crate::names::party_named;
 use crate::offer::offer;
 use crate::row::seeded_row;
 use crate::row_line::row_line;
-use party_lines::{ended_lines, first_line, no_line, party_named, seed_line};
-use refusals::HeaderFault;
+use command_input::HeaderFault;
 use std::alloc::Global;
 use swap_base::{ByteText, Digest};
 use swap_job::Job;

@@ -3,13 +3,13 @@
 use Rattle.std.specs.Prelude.{◌==◌, ◌&&◌, ◌++◌, ℕ, Bool, false, nat_le, List, [], ◌∷◌, codes, length, Result, Ok, Err, if◌then◌else◌}
 use Rattle.std.specs.List.{list_all}
 use Rattle.swap_base.specs.Fault.{◌>>=◌}
-use Rattle.refusals.specs.declared.reason.Reason.TheVariants.{OverLimit}
-use Rattle.refusals.specs.declared.refusal.Refusal.{Refusal}
-use Rattle.transcript_lines.specs.declared.said.Misspelling.{Misspelling}
-use Rattle.transcript_lines.specs.Between.{separated_parts}
-use Rattle.transcript_lines.specs.Reading.{misspelt, parse_first_field, is_word, bounded_number}
-use Rattle.party_lines.specs.Digests.{this_word}
-use Rattle.party_lines.specs.Lines.{nameless, following_line_number, or_bad_line}
+use Rattle.command_input.specs.declared.reason.Reason.TheVariants.{OverLimit}
+use Rattle.command_input.specs.declared.refusal.Refusal.{Refusal}
+use Rattle.transcript_book.specs.declared.said.Misspelling.{Misspelling}
+use Rattle.transcript_book.specs.Between.{separated_parts}
+use Rattle.transcript_book.specs.Reading.{misspelt, parse_first_field, is_word, bounded_number}
+use Rattle.party_rows.specs.Digests.{this_word}
+use Rattle.party_rows.specs.Lines.{nameless, following_line_number, or_bad_line}
 use Rattle.party_terms.specs.declared.context.ContextLine.{ContextLine}
 use Rattle.party_terms.specs.declared.context.Context.{Context}
 

@@ -5,12 +5,12 @@ use Rattle.sha2.specs.Sha256.{sha256}
 use Rattle.swap_base.specs.Fault.{◌>>=◌}
 use Rattle.swap_job.specs.declared.job.Job.{Job}
 use Rattle.swap_job.specs.declared.job.Purpose.TheVariants.{Audit}
-use Rattle.refusals.specs.declared.refusal.Refusal.{Refusal}
-use Rattle.refusals.specs.Refusal.{named_result}
+use Rattle.command_input.specs.declared.refusal.Refusal.{Refusal}
+use Rattle.command_input.specs.Refusal.{named_result}
 use Rattle.offer_header.specs.Names.{no_strategy}
 use Rattle.swap_offer.specs.Job.{parse_header_job, header_names}
-use Rattle.party_lines.specs.Lines.{first_line, ended_lines, following_line_number, no_line, short_header}
-use Rattle.party_lines.specs.Names.{party_named}
+use Rattle.party_rows.specs.Lines.{first_line, ended_lines, following_line_number, no_line, short_header}
+use Rattle.party_rows.specs.Names.{party_named}
 use Rattle.party_terms.specs.declared.context.ContextLine.{ContextLine}
 use Rattle.party_terms.specs.Context.{parse_context}
 use Rattle.party_terms.specs.Text.{terms_text}

@@ -4,13 +4,13 @@ ghost use Rattle.std.specs.Prelude.{◌≡◌, ◌++◌, ◌∷◌, [], IfOk};
 ghost use Rattle.std.specs.List.{flat_map};
 ghost use Rattle.swap_base.specs.Fault.{Gives};
 ghost use Rattle.hashkey_path.specs.Digest.{Feeds};
-ghost use Rattle.party_lines.specs.Lines.{TakesFirstLine};
+ghost use Rattle.party_rows.specs.Lines.{TakesFirstLine};
 ghost use Rattle.party_terms.specs.Inside.{inside_agreed, IsAgreedJob};
 ghost use Rattle.party_terms.specs.Terms.{parse_agreed, agreed_digest, parse_header_line};
 
 use crate::context::{ContextLine, read_context};
-use party_lines::{first_line, short_header};
-use refusals::HeaderFault;
+use command_input::HeaderFault;
+use party_rows::{first_line, short_header};
 use sha2::{Digest as Hasher, Sha256};
 use std::alloc::Global;
 use swap_base::{Digest, Listed};

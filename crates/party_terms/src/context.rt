@@ -4,13 +4,13 @@ ghost use Rattle.std.specs.Prelude.{◌≡◌, ◌≤◌, ◌∷◌, MatchOption
 ghost use Rattle.std.specs.List.{list_all};
 ghost use Rattle.swap_base.specs.Fault.{Gives};
 ghost use Rattle.transcript_book.specs.Taking.{Takes};
-ghost use Rattle.transcript_lines.specs.Reading.{parse_first_field};
-ghost use Rattle.party_lines.specs.Lines.{or_bad_line, TakesFirstLine};
+ghost use Rattle.transcript_book.specs.Reading.{parse_first_field};
+ghost use Rattle.party_rows.specs.Lines.{or_bad_line, TakesFirstLine};
 ghost use Rattle.party_terms.specs.Context.{parse_context_line, context_arc, nonempty_word, parse_context, is_context_line, is_plain_line, is_printable, check_room, with_context_line};
 ghost use Rattle.party_terms.specs.Inside.{IsBehindContext};
 
-use party_lines::{refused, this_word};
-use refusals::{HeaderFault, Reason};
+use command_input::{HeaderFault, Reason};
+use party_rows::{refused, this_word};
 use std::alloc::Global;
 use swap_base::{ArcId, ByteText, Fault, Listed};
 use transcript_book::{Parts, WordFault, bounded_field, misspelt, word};
@@ -61,7 +61,7 @@ fn nonempty_word(word: &[u8]) -> Result<(), WordFault>
     }
 }
 
-#[tactic(auto, unfolding(transcript_lines::specs::Reading::parse_first_field))]
+#[tactic(auto, unfolding(transcript_book::specs::Reading::parse_first_field))]
 fn text_field(fields: &mut Parts<'_>) -> Result<(), WordFault>
     ensures { Takes (λ u. u) result fields.new (parse_first_field nonempty_word fields.old) }
 {

@@ -7,12 +7,12 @@ ghost use Rattle.party_terms.specs.Text.{terms_party_line, pays_line, times_line
 
 use crate::context::ContextLine;
 use crate::heights::{publish_deadline, refund_height};
+use command_input::party_name;
 use due_calls::leads;
-use refusals::party_name;
+use run_texts::put_digits;
 use swap_base::{ArcId, ByteText, Digest, LockId, NoMemory, PartyId, Piece, put};
 use swap_digraph::{Deal, Mode};
 use time_bounds::horizon;
-use transcript_writer::put_digits;
 
 #[tactic(auto, unfolding(crate::specs::Text::terms_party_line))]
 fn put_party(out: &mut Vec<u8>, names: &[ByteText], party: PartyId) -> Result<(), NoMemory>

@@ -6,8 +6,8 @@ ghost use Rattle.party_terms.specs.Terms.{terms_from_lines, named_terms, terms_o
 
 use crate::agreed::{Agreed, read_agreed};
 use crate::text::terms_text;
-use party_lines::{ended_lines, no_line, party_named};
-use refusals::HeaderFault;
+use command_input::HeaderFault;
+use party_rows::{ended_lines, no_line, party_named};
 use std::alloc::Global;
 use swap_base::ByteText;
 use transcript_book::Parts;

@@ -49,7 +49,7 @@ fn put_entering(
 }
 
 /// Appends the lines of the locks that the party leads.
-#[tactic(auto, using(sent_keys::proofs::Loops::flat_more))]
+#[tactic(auto, using(conduct_check::proofs::KeyLoops::flat_more))]
 fn put_leads(out: &mut Vec<u8>, deal: &Deal, party: PartyId) -> Result<(), NoMemory>
     requires few { length deal.now.leaders < 256 }
     requires party { party < deal.now.graph.n }

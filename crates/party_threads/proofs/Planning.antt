@@ -19,8 +19,8 @@ use Rattle.ledger_shared.specs.Value.{PassState, SharedState, party_made}
 use Rattle.swap_job.specs.declared.job.Role.{Role}
 use Rattle.swap_job.specs.declared.job.Role.TheVariants.{Conforming, Manual, Script, Strategy}
 use Rattle.swap_job.specs.Crafted.{Seeds}
-use Rattle.deviators.specs.Script.{next_call as script_call, moves_left}
-use Rattle.deviators.specs.View.{IsView, IsPartyAnswer, MayAnswer}
+use Rattle.swap_run.specs.Script.{next_call as script_call, moves_left}
+use Rattle.swap_run.specs.View.{IsView, IsPartyAnswer, MayAnswer}
 use Rattle.swap_rules.specs.Machine.{Begins}
 use Rattle.swap_rules.proofs.Prefixes.{same_or_not}
 use Rattle.swap_rules.proofs.Conducting.{Next, next_call, next_legal, next_begins, history_same, history_other}

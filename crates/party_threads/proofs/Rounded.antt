@@ -20,7 +20,7 @@ use Rattle.ledger_core.specs.Book.{Histories, history, IsLegalBook}
 use Rattle.ledger_shared.specs.Value.{PassState, party_made, ticks_in_order, table_clock}
 use Rattle.swap_job.specs.Roles.{job_role}
 use Rattle.swap_job.specs.declared.job.Job.{Job}
-use Rattle.deviators.proofs.Answering.{leaves, enters}
+use Rattle.swap_run.proofs.Answering.{leaves, enters}
 use Rattle.party_wallet.specs.Value.{signed_hashkey}
 use Rattle.party_machine.specs.Machine.{MachineState}
 use Rattle.party_machine.specs.Wallet.{seed_wallet}

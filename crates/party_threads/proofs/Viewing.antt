@@ -10,8 +10,8 @@ use Rattle.ledger_core.specs.Book.{Histories, history}
 use Rattle.swap_job.specs.declared.moves.Move.{Move}
 use Rattle.swap_job.specs.declared.job.Role.{Role}
 use Rattle.swap_job.specs.declared.job.Role.TheVariants.{Conforming, Manual, Script, Strategy}
-use Rattle.deviators.specs.Script.{next_call, moves_left}
-use Rattle.deviators.specs.View.{IsView, MayAnswer}
+use Rattle.swap_run.specs.Script.{next_call, moves_left}
+use Rattle.swap_run.specs.View.{IsView, MayAnswer}
 use Rattle.swap_job.specs.Fitting.{is_near}
 use Rattle.swap_job.specs.Roles.{role_script}
 use Rattle.swap_rules.specs.Machine.{Begins}

@@ -10,8 +10,8 @@ use Rattle.ledger_shared.specs.Value.{PassState}
 use Rattle.swap_job.specs.declared.job.Role.{Role}
 use Rattle.swap_job.specs.declared.job.Role.TheVariants.{Conforming, Manual, Script, Strategy}
 use Rattle.swap_job.specs.Crafted.{Seeds}
-use Rattle.deviators.specs.Script.{next_call, moves_left}
-use Rattle.deviators.specs.View.{IsView, MayAnswer}
+use Rattle.swap_run.specs.Script.{next_call, moves_left}
+use Rattle.swap_run.specs.View.{IsView, MayAnswer}
 use Rattle.swap_rules.specs.Party.{pick_call}
 use Rattle.swap_rules.specs.Machine.{Begins}
 use Rattle.swap_run.specs.Run.{Plan}

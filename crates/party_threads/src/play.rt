@@ -6,7 +6,7 @@ ghost use Rattle.ledger_core.specs.Book.{history};
 ghost use Rattle.ledger_core.specs.History.{IsLegal};
 ghost use Rattle.swap_job.specs.Fitting.{IsPartyMove};
 ghost use Rattle.swap_job.specs.Roles.{IsHeld, job_role};
-ghost use Rattle.deviators.specs.View.{IsView, MayAnswer};
+ghost use Rattle.swap_run.specs.View.{IsView, MayAnswer};
 ghost use Rattle.party_machine.specs.Machine.{learnt, next_due};
 ghost use Rattle.swap_run.proofs.Slots.{left};
 ghost use Rattle.swap_run.specs.Shown.{IsShown};
@@ -22,7 +22,6 @@ use crate::clock::take_clock_turn;
 use crate::side::Side;
 use crate::turn::{Actor, Turn};
 use crate::watching::{Learner, look_round, submit};
-use deviators::Strategies;
 use history_index::Steps;
 use ledger_core::{Call, EntryList};
 use ledger_shared::Pass;
@@ -32,7 +31,7 @@ use std::sync::Wait;
 use std::sync::ledger::{Blank, Ledger as Counted};
 use swap_base::{ArcId, NoMemory, PartyId};
 use swap_job::{Job, Role};
-use swap_run::Planner;
+use swap_run::{Planner, Strategies};
 use swap_world::{Player, most_acts};
 
 fn learn_entries_counted<L: Counted>(

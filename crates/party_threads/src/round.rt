@@ -15,12 +15,12 @@ use crate::play::play;
 use crate::setting::Setting;
 use crate::side::Side;
 use crate::turn::Turn;
-use deviators::Strategies;
 use ledger_shared::SharedLedger;
 use std::sync::Wait;
 use std::thread;
 use std::thread::Threads;
 use swap_base::{NoMemory, PartyId};
+use swap_run::Strategies;
 
 fn take_turn<R: Wait, A: Strategies>(
     rt: &R,

@@ -6,10 +6,10 @@ use Rattle.std.specs.List.{list_any}
 use Rattle.std.proofs.lemmas.List.Elements.{All-nil, All-push}
 use Rattle.swap_base.specs.Fault.{steps}
 use Rattle.swap_base.specs.Lists.{IsElement}
-use Rattle.refusals.specs.declared.reason.Reason.{Reason}
-use Rattle.refusals.specs.declared.reason.Reason.TheVariants.{BadName, Duplicate, StartTooSoon}
-use Rattle.offer_fields.specs.Fields.{parse_data}
-use Rattle.offer_fields.specs.Lists.{collected_results}
+use Rattle.command_input.specs.declared.reason.Reason.{Reason}
+use Rattle.command_input.specs.declared.reason.Reason.TheVariants.{BadName, Duplicate, StartTooSoon}
+use Rattle.offer_moves.specs.Fields.{parse_data}
+use Rattle.offer_moves.specs.Lists.{collected_results}
 use Rattle.offer_header.specs.Names.{is_name, name_added, AreNames}
 use Rattle.offer_header.proofs.Walked.{steps_keep}
 use Rattle.swap_clear.specs.declared.answer.Group.{Group}
@@ -17,16 +17,16 @@ use Rattle.swap_clear.specs.declared.answer.Clearing.{Clearing}
 use Rattle.swap_clear.specs.declared.fault.ClearReason.{ClearReason}
 use Rattle.swap_clear.specs.Clearing.{cleared_groups}
 use Rattle.swap_clear.proofs.ClearingAnswers as told
-use Rattle.clear_line.specs.Cleared.{by_clearing, parse_cleared, make_clearing, wished_start, without_self_arcs}
-use Rattle.clear_line.specs.Fields.{raw_wishes}
-use Rattle.clear_line.specs.Limits.{limited_proposals, limited_times, parse_wishes, parse_wish_text, AreWishesInLimits}
-use Rattle.clear_line.specs.Names.{wished_name_step, numbered_arc, numbered_wishes, AreBoundedEnds}
-use Rattle.clear_line.specs.declared.cleared.Cleared.{Cleared}
-use Rattle.clear_line.specs.declared.fields.RawWishes.{RawWishes}
-use Rattle.clear_line.specs.declared.limits.Wishes.{Wishes}
-use Rattle.clear_line.specs.declared.names.Numbered.{Numbered}
-use Rattle.clear_line.proofs.Named.{listed_arcs, names_of}
-use Rattle.clear_line.proofs.Within.{set_contains_ends}
+use Rattle.swap_clear.specs.Cleared.{by_clearing, parse_cleared, make_clearing, wished_start, without_self_arcs}
+use Rattle.swap_clear.specs.Fields.{raw_wishes}
+use Rattle.swap_clear.specs.Limits.{limited_proposals, limited_times, parse_wishes, parse_wish_text, AreWishesInLimits}
+use Rattle.swap_clear.specs.Names.{wished_name_step, numbered_arc, numbered_wishes, AreBoundedEnds}
+use Rattle.swap_clear.specs.declared.cleared.Cleared.{Cleared}
+use Rattle.swap_clear.specs.declared.fields.RawWishes.{RawWishes}
+use Rattle.swap_clear.specs.declared.limits.Wishes.{Wishes}
+use Rattle.swap_clear.specs.declared.names.Numbered.{Numbered}
+use Rattle.swap_clear.proofs.Named.{listed_arcs, names_of}
+use Rattle.swap_clear.proofs.Within.{set_contains_ends}
 use Rattle.read_back.proofs.Onward.{landed, ok_is, onward}
 use Rattle.read_back.proofs.Shape.{IsClear, IsGood}
 use Rattle.read_back.proofs.Showable.{two_tests}

@@ -5,7 +5,7 @@ use Rattle.swap_digraph.specs.declared.deal.Mode.TheVariants.{Hashkeys}
 use Rattle.swap_digraph.specs.declared.deal.Version.TheVariants.{Two}
 use Rattle.swap_job.specs.declared.job.Purpose.TheVariants.{Make}
 use Rattle.swap_job.specs.declared.job.Finish.TheVariants.{Stop}
-use Rattle.offer_fields.specs.Fields.{read_array_field, field_list, needed, field_number, required_object, only, optional_field_text, field_text}
+use Rattle.offer_moves.specs.Fields.{read_array_field, field_list, needed, field_number, required_object, only, optional_field_text, field_text}
 use Rattle.offer_header.specs.declared.raw.Reading.{Reading}
 use Rattle.offer_header.specs.declared.raw.RawActor.TheVariants.{Conforming}
 use Rattle.offer_header.specs.declared.raw.RawParty.{RawParty}
@@ -16,8 +16,8 @@ use Rattle.offer_header.specs.Raw.{actor_member, object_arc, finish_member, head
 use Rattle.offer_header.specs.Raw.{stated_mode}
 use Rattle.offer_header.specs.Raw.{version_member}
 use Rattle.swap_clear.specs.declared.answer.Group.{Group}
-use Rattle.clear_line.specs.declared.limits.Wishes.{Wishes}
-use Rattle.clear_line.specs.ClearedText.{proposal_data, named_data, proposal}
+use Rattle.swap_clear.specs.declared.limits.Wishes.{Wishes}
+use Rattle.swap_clear.specs.ClearedText.{proposal_data, named_data, proposal}
 use Rattle.read_back.specs.ClearedJobs.{wished_name, seeded_data, seeded_party}
 use Rattle.read_back.proofs.Steps.{items_back, step}
 

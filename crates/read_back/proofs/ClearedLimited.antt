@@ -10,8 +10,8 @@ use Rattle.swap_digraph.proofs.Paths.{in-is_listed}
 use Rattle.swap_digraph.specs.declared.deal.Version.TheVariants.{Two}
 use Rattle.swap_job.specs.declared.job.Purpose.TheVariants.{Make}
 use Rattle.swap_job.specs.declared.job.Role.TheVariants.{Conforming}
-use Rattle.offer_fields.specs.Lists.{collected_results}
-use Rattle.offer_fields.specs.Limits.{to_digest}
+use Rattle.offer_moves.specs.Lists.{collected_results}
+use Rattle.offer_moves.specs.FieldLimits.{to_digest}
 use Rattle.offer_moves.specs.declared.moves.Sizes.{Sizes}
 use Rattle.offer_header.specs.declared.limits.Acting.{Acting}
 use Rattle.offer_header.specs.declared.limits.ArcTerms.{ArcTerms}
@@ -20,8 +20,8 @@ use Rattle.offer_header.specs.Limits.{parse_acting, limited_terms, leader_hashlo
 use Rattle.offer_header.specs.Limits.{checked_seed, header_sizes, limited_arc_terms}
 use Rattle.swap_clear.specs.declared.answer.Group.{Group}
 use Rattle.swap_clear.specs.Led.{own, own_leaders}
-use Rattle.clear_line.specs.declared.limits.Wishes.{Wishes}
-use Rattle.clear_line.specs.ClearedText.{proposal}
+use Rattle.swap_clear.specs.declared.limits.Wishes.{Wishes}
+use Rattle.swap_clear.specs.ClearedText.{proposal}
 use Rattle.read_back.specs.ClearedJobs.{wished_graph, AreDigitTexts}
 use Rattle.read_back.proofs.Steps.{each_back, step}
 use Rattle.read_back.proofs.ClearedFields.{raw_arc, raw_header, raw_leader, raw_party}

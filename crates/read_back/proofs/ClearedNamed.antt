@@ -10,15 +10,15 @@ use Rattle.swap_base.specs.Lists.{IsElement}
 use Rattle.swap_base.proofs.Lists.{in_append, in_map, in_from_moment}
 use Rattle.swap_digraph.specs.Graph.{is_listed}
 use Rattle.swap_digraph.proofs.Paths.{in-is_listed, is_listed-true}
-use Rattle.offer_fields.specs.Lists.{collected_results}
+use Rattle.offer_moves.specs.Lists.{collected_results}
 use Rattle.offer_header.specs.Names.{named_ends, is_name, leader_step, name_added, name_step, names_stated, numbered_header}
 use Rattle.offer_header.specs.declared.names.Ends.{Ends}
 use Rattle.offer_header.specs.declared.names.Numbered.{Numbered}
 use Rattle.swap_clear.specs.declared.answer.Group.{Group}
 use Rattle.swap_clear.specs.Groups.{index_in_set}
 use Rattle.swap_clear.specs.Led.{own_leaders}
-use Rattle.clear_line.specs.declared.limits.Wishes.{Wishes}
-use Rattle.clear_line.specs.ClearedText.{proposal}
+use Rattle.swap_clear.specs.declared.limits.Wishes.{Wishes}
+use Rattle.swap_clear.specs.ClearedText.{proposal}
 use Rattle.read_back.specs.ClearedJobs.{wished_name}
 use Rattle.read_back.proofs.Steps.{each_back, step}
 use Rattle.read_back.proofs.ClearedFields.{raw_arc, raw_header, raw_leader, raw_party}

@@ -5,8 +5,8 @@ use Rattle.std.specs.List.{list_all}
 use Rattle.swap_base.proofs.Lists.{and_parts}
 use Rattle.command_input.specs.Lines.{filled_lines, collect_lines, with_first}
 use Rattle.swap_clear.specs.declared.answer.Group.{Group}
-use Rattle.clear_line.specs.declared.limits.Wishes.{Wishes}
-use Rattle.clear_line.specs.ClearedText.{proposal_data, named_data, proposal}
+use Rattle.swap_clear.specs.declared.limits.Wishes.{Wishes}
+use Rattle.swap_clear.specs.ClearedText.{proposal_data, named_data, proposal}
 use Rattle.read_back.specs.ClearedJobs.{seeded_data, seeded_line, seeded_party}
 use Rattle.read_back.proofs.HeaderOneLine.{one_value, IsOneLine, IsPlain, items_plain}
 use Rattle.read_back.proofs.ClearedLimited.{amount_low}

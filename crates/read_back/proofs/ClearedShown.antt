@@ -16,9 +16,9 @@ use Rattle.swap_base.specs.Lists.{IsElement}
 use Rattle.offer_text.specs.Words.{list_data, name_data, number_data, AreTexts}
 use Rattle.swap_clear.specs.declared.answer.Group.{Group}
 use Rattle.swap_clear.specs.declared.proposed.Proposed.{Proposed}
-use Rattle.clear_line.specs.declared.limits.Wishes.{Wishes}
-use Rattle.clear_line.specs.ClearedText.{proposal_data, named_data, proposal}
-use Rattle.clear_line.proofs.Texts.{are_texts, text_at}
+use Rattle.swap_clear.specs.declared.limits.Wishes.{Wishes}
+use Rattle.swap_clear.specs.ClearedText.{proposal_data, named_data, proposal}
+use Rattle.swap_clear.proofs.Texts.{are_texts, text_at}
 use Rattle.read_back.specs.ClearedJobs.{job_data, seeded_data, seeded_line, seeded_party, AreDigitTexts}
 use Rattle.read_back.proofs.Texts.{list_is, number_is, object_is, reads_back, string_is, IsRead}
 use Rattle.read_back.proofs.Lists.{second_in}

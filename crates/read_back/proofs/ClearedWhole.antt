@@ -4,17 +4,17 @@ use Rattle.std.specs.Str.{is_utf8}
 use Rattle.serde_json.specs.Read.{read}
 use Rattle.swap_base.specs.Fault.{steps}
 use Rattle.swap_job.specs.declared.job.Purpose.TheVariants.{Make}
-use Rattle.refusals.specs.declared.reason.Reason.TheVariants.{NotJson}
-use Rattle.offer_fields.specs.Fields.{parse_data, object_or}
+use Rattle.command_input.specs.declared.reason.Reason.TheVariants.{NotJson}
+use Rattle.offer_moves.specs.Fields.{parse_data, object_or}
 use Rattle.offer_header.specs.Header.{parse_whole_header}
 use Rattle.swap_offer.specs.Job.{parse_header_job, parse_job, job_of_lines}
 use Rattle.swap_clear.specs.declared.answer.Group.{Group}
-use Rattle.clear_line.specs.declared.limits.Wishes.{Wishes}
+use Rattle.swap_clear.specs.declared.limits.Wishes.{Wishes}
 use Rattle.read_back.specs.ClearedJobs.{cleared_job, seeded_data, seeded_line, AreDigitTexts, IsSeeded}
 use Rattle.read_back.specs.ClearedJobs.{ClearedGroupsAreMade, ClearedGroupsArePlainJobs, ClearedGroupsArePlainOffers, OnlySeedsAreAdded}
 use Rattle.read_back.specs.ClearedJobs.{SeededLineIsOneLine, SeededLineReads, SeededTextIsPlainJob}
 use Rattle.read_back.proofs.Steps.{step}
-use Rattle.clear_line.specs.declared.cleared.Cleared.{Cleared}
+use Rattle.swap_clear.specs.declared.cleared.Cleared.{Cleared}
 use Rattle.made_jobs.specs.Making.{made_lines_output, made_output, made_text}
 use Rattle.read_back.proofs.Cleared.{groups_are_clear}
 use Rattle.read_back.proofs.Deal.{accepted_back, all_placed}

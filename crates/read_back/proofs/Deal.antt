@@ -17,7 +17,7 @@ use Rattle.swap_job.specs.declared.job.Purpose.TheVariants.{Make}
 use Rattle.swap_job.specs.declared.job.Finish.TheVariants.{Stop}
 use Rattle.swap_job.specs.declared.job.Role.{Role}
 use Rattle.swap_job.specs.declared.job.Role.TheVariants.{Conforming}
-use Rattle.proposed_deal.specs.Proposed.{IsProposed}
+use Rattle.swap_offer.specs.Proposed.{IsProposed}
 use Rattle.offer_header.specs.Header.{IsHeaderInLimits}
 use Rattle.offer_header.specs.Limits.{arc_ends, no_digest, no_digests}
 use Rattle.offer_header.specs.Raw.{IsUntimed}
@@ -36,7 +36,7 @@ use Rattle.swap_clear.specs.declared.answer.Group.{Group}
 use Rattle.swap_clear.specs.Groups.{own_ends}
 use Rattle.swap_clear.specs.Led.{own_leaders}
 use Rattle.swap_clear.specs.Ready.{own_amounts}
-use Rattle.clear_line.specs.declared.limits.Wishes.{Wishes}
+use Rattle.swap_clear.specs.declared.limits.Wishes.{Wishes}
 use Rattle.read_back.specs.ClearedJobs.{deal_but_id, group_deal, wished_name, cleared_job, wished_graph, AreDigitTexts, unmade_digests}
 use Rattle.read_back.proofs.Steps.{step}
 use Rattle.read_back.proofs.ClearedFields.{raw_arc, raw_header, raw_leader, raw_party}

@@ -11,8 +11,8 @@ use Rattle.swap_job.specs.Step.{CanLook, CanTick, IsJobEvent}
 use Rattle.swap_job.specs.declared.event.Event.{Event}
 use Rattle.swap_job.specs.declared.event.Event.TheVariants.{Tick, Look, Act, Call, Crash}
 use Rattle.swap_job.specs.declared.job.Job.{Job}
-use Rattle.refusals.specs.declared.reason.Reason.TheVariants.{NotAdjacent, OverLimit}
-use Rattle.offer_fields.specs.Names.{party_of_name}
+use Rattle.command_input.specs.declared.reason.Reason.TheVariants.{NotAdjacent, OverLimit}
+use Rattle.offer_moves.specs.Names.{party_of_name}
 use Rattle.offer_moves.specs.Moves.{parse_arc, deal_sizes}
 use Rattle.offer_moves.specs.Placed.{adjacent}
 use Rattle.offer_events.specs.Event.{asked_event, parse_event, event_of_act, event_of_look, event_of_tick, outside_race}
@@ -20,16 +20,16 @@ use Rattle.offer_events.specs.Plain.{is_plain_byte}
 use Rattle.offer_events.specs.declared.raw.RawEvent.TheVariants as raws
 use Rattle.offer_events.proofs.PlainText.{act_alone, arc_then_look, asked_by, by_then_tick}
 use Rattle.swap_gen.specs.Events.{drawn_event, drawn_events}
-use Rattle.refusals.specs.Words.{party_name}
+use Rattle.command_input.specs.Words.{party_name}
 use Rattle.swap_gen.specs.Line.{event_line}
 use Rattle.swap_gen.specs.Word.{word}
 use Rattle.swap_offer.specs.Job.{parse_events, limited_event}
 use Rattle.command_input.specs.Lines.{is_blank}
-use Rattle.transcript_lines.proofs.Numbers.{high_number}
+use Rattle.transcript_book.proofs.Numbers.{high_number}
 use Rattle.read_back.proofs.HeaderLimited.{number_back}
 use Rattle.read_back.proofs.HeaderOneLine.{both_lines, high_line}
 use Rattle.read_back.proofs.Steps.{step}
-use Rattle.transcript_lines.specs.Between.{fed_lines}
+use Rattle.transcript_book.specs.Between.{fed_lines}
 use Rattle.read_back.specs.Made.{numbered_lines, IsOneLine}
 use Rattle.read_back.proofs.Lines.{AreLines}
 use Rattle.read_back.proofs.MoveLimits.{below_back}

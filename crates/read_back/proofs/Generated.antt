@@ -31,7 +31,7 @@ use Rattle.swap_offer.specs.Job.{parse_events, parse_job}
 use Rattle.made_jobs.specs.Generating.{generated_text}
 use Rattle.made_jobs.specs.Making.{written_line}
 use Rattle.read_back.proofs.HeaderNamed as named
-use Rattle.transcript_lines.specs.Between.{fed_lines}
+use Rattle.transcript_book.specs.Between.{fed_lines}
 use Rattle.read_back.specs.Made.{numbered_lines, reads_jobs, told_job, with_job, GeneratedTextIsReadBack, HasAllowedEvents}
 use Rattle.read_back.proofs.Events.{drawn_from, event_lines, event_text, events_back, lines_are_text, AreDrawn, HasPlainNames}
 use Rattle.read_back.proofs.Outputs.{text_back}

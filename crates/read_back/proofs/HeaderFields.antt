@@ -14,7 +14,7 @@ use Rattle.swap_digraph.specs.Deal.{amount, lock_leader, locks}
 use Rattle.swap_job.specs.declared.job.Job.{Job}
 use Rattle.swap_job.specs.declared.job.Purpose.TheVariants.{Audit}
 use Rattle.swap_job.specs.declared.job.Finish.TheVariants.{Stop}
-use Rattle.offer_fields.specs.Fields.{read_array_field, field_list, text_member, needed, field_number, required_object, only, field_text}
+use Rattle.offer_moves.specs.Fields.{read_array_field, field_list, text_member, needed, field_number, required_object, only, field_text}
 use Rattle.offer_header.specs.declared.raw.Reading.{Reading}
 use Rattle.offer_header.specs.declared.raw.RawActor.{RawActor}
 use Rattle.offer_header.specs.declared.raw.RawActor.TheVariants.{Conforming, Manual}

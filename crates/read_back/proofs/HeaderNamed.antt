@@ -13,8 +13,8 @@ use Rattle.swap_digraph.specs.Graph.{arcs, ends}
 use Rattle.swap_digraph.specs.declared.deal.Mode.{Mode}
 use Rattle.swap_digraph.specs.Deal.{lock_leader}
 use Rattle.swap_job.specs.declared.job.Job.{Job}
-use Rattle.offer_fields.specs.Names.{found_place, party_of_name}
-use Rattle.offer_fields.specs.Lists.{collected_results}
+use Rattle.offer_moves.specs.Names.{found_place, party_of_name}
+use Rattle.offer_moves.specs.Lists.{collected_results}
 use Rattle.offer_header.specs.Names.{actor_known, named_ends, is_name, leader_step, name_added, name_step, names_stated, numbered_header}
 use Rattle.offer_header.specs.declared.names.Ends.{Ends}
 use Rattle.offer_header.specs.declared.names.Numbered.{Numbered}

@@ -24,8 +24,8 @@ use Rattle.offer_text.specs.Words.{digest_data, list_data}
 use Rattle.offer_text.specs.HeaderLine.{arc_json, arc_data, arcs_data, fields_by_mode, header_line, keys_data, leader_value, leaders_data, made_header}
 use Rattle.offer_text.specs.HeaderLine.{version_number}
 use Rattle.offer_text.specs.HeaderLine.{parties_data, shown_header, shown_party}
-use Rattle.transcript_lines.proofs.Numbers.{high_number}
-use Rattle.transcript_lines.proofs.SeparatedParts.{IsHigh}
+use Rattle.transcript_book.proofs.Numbers.{high_number}
+use Rattle.transcript_book.proofs.SeparatedParts.{IsHigh}
 use Rattle.read_back.specs.Headers.{HeaderIsOneLine}
 
 abbrev pub IsOneLine : List ℕ → Type 0

@@ -19,8 +19,8 @@ use Rattle.swap_job.specs.declared.job.Job.{Job}
 use Rattle.swap_job.specs.declared.job.Purpose.TheVariants.{Audit}
 use Rattle.swap_job.specs.declared.job.Finish.TheVariants.{Stop}
 use Rattle.swap_rules.specs.Accepted.{IsAccepted, IsOfVersion}
-use Rattle.refusals.specs.declared.reason.Reason.TheVariants.{NotJson}
-use Rattle.offer_fields.specs.Fields.{parse_data, object_or}
+use Rattle.command_input.specs.declared.reason.Reason.TheVariants.{NotJson}
+use Rattle.offer_moves.specs.Fields.{parse_data, object_or}
 use Rattle.offer_header.specs.Header.{parse_whole_header, simple_role, IsHeaderInLimits}
 use Rattle.offer_header.specs.Raw.{IsVersionMode, IsUntimed}
 use Rattle.offer_header.specs.Scripts.{roles_placed, scripts_placed}

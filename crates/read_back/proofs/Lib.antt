@@ -40,3 +40,9 @@ pub mod Generated
 pub mod Runs
 pub mod Stories
 pub mod ProgramNames
+pub mod Ends
+pub mod Named
+pub mod RowBack
+pub mod Order
+pub mod Proposing
+pub mod Whole

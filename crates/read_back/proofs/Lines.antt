@@ -6,7 +6,7 @@ use Rattle.std.proofs.lemmas.List.Elements.{All-head, All-tail}
 use Rattle.swap_base.proofs.Lists.{and_both, and_parts}
 use Rattle.command_input.specs.Lines.{filled_lines, is_blank, collect_lines, with_first}
 use Rattle.made_jobs.specs.Making.{with_copied_line}
-use Rattle.transcript_lines.specs.Between.{fed_lines}
+use Rattle.transcript_book.specs.Between.{fed_lines}
 use Rattle.read_back.specs.Made.{numbered_lines, IsOneLine, TextHasOneStory, TextIsItsLines}
 
 pub not_is : (b : Bool) → not b ≡ true → b ≡ false

@@ -9,7 +9,7 @@ use Rattle.std.proofs.lemmas.List.{get_or_append_left, length-append, map-append
 use Rattle.std.proofs.Math.Seq.{get_or-append_seam}
 use Rattle.swap_base.specs.Fault.{steps}
 use Rattle.swap_base.specs.Lists.{IsElement}
-use Rattle.refusals.specs.declared.reason.Reason.{Reason}
+use Rattle.command_input.specs.declared.reason.Reason.{Reason}
 use Rattle.swap_clear.proofs.Places.{rises}
 use Rattle.read_back.proofs.Steps.{step}
 

@@ -17,7 +17,7 @@ use Rattle.swap_job.specs.declared.job.Finish.TheVariants.{Stop, Fair}
 use Rattle.swap_job.specs.declared.job.Role.{Role}
 use Rattle.swap_job.specs.declared.job.Role.TheVariants as kinds
 use Rattle.swap_job.specs.declared.moves.Move.{Move}
-use Rattle.offer_fields.specs.Fields.{read_array_field, field_list, text_member, needed, field_number, required_object, only, optional_field_text, field_text}
+use Rattle.offer_moves.specs.Fields.{read_array_field, field_list, text_member, needed, field_number, required_object, only, optional_field_text, field_text}
 use Rattle.offer_moves.specs.Reading.{script_move}
 use Rattle.offer_header.specs.declared.raw.Reading.{Reading}
 use Rattle.offer_header.specs.declared.raw.RawActor.{RawActor}

@@ -19,8 +19,8 @@ use Rattle.swap_job.specs.declared.job.Role.TheVariants.{Conforming, Manual, Scr
 use Rattle.swap_job.specs.declared.moves.Move.{Move}
 use Rattle.swap_job.specs.declared.moves.Move.TheVariants.{Publish, Craft, Replay, Raw, Claim, Refund, Transfer, Wait}
 use Rattle.offer_moves.specs.declared.moves.Sizes.{Sizes}
-use Rattle.refusals.specs.declared.reason.Reason.{Reason}
-use Rattle.refusals.specs.declared.reason.Reason.TheVariants.{Unknown}
+use Rattle.command_input.specs.declared.reason.Reason.{Reason}
+use Rattle.command_input.specs.declared.reason.Reason.TheVariants.{Unknown}
 use Rattle.offer_header.specs.Names.{actor_known, all_known, known_name, move_known, name_added, name_step, names_stated, numbered_header, strategy_known, with_name}
 use Rattle.read_back.proofs.HeaderLimited.{all_in}
 use Rattle.read_back.proofs.HeaderNamed.{all_arcs, all_leaders, ends_at, is_fresh, name_on, numbered_at}

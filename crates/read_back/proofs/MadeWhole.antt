@@ -7,8 +7,8 @@ use Rattle.swap_digraph.specs.declared.deal.Deal.{Deal}
 use Rattle.hashkey_path.specs.Digest.{deal_id}
 use Rattle.hashkey_path.proofs.Feeding.{any_id}
 use Rattle.swap_job.specs.declared.job.Job.{Job}
-use Rattle.refusals.specs.declared.reason.Reason.TheVariants.{NotJson}
-use Rattle.offer_fields.specs.Fields.{parse_data, object_or}
+use Rattle.command_input.specs.declared.reason.Reason.TheVariants.{NotJson}
+use Rattle.offer_moves.specs.Fields.{parse_data, object_or}
 use Rattle.offer_header.specs.Header.{parse_whole_header, IsHeaderInLimits}
 use Rattle.offer_header.specs.Raw.{is_plain, IsVersionMode}
 use Rattle.offer_header.specs.Scripts.{scripts_placed}

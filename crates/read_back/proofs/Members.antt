@@ -10,7 +10,7 @@ use Rattle.serde_json.specs.Data.{Data, object, Members, no_members, member}
 use Rattle.serde_json.specs.Find.{get_member}
 use Rattle.swap_base.specs.Lists.{or_else}
 use Rattle.swap_base.proofs.Lists.{and_both, and_parts}
-use Rattle.offer_fields.specs.Fields.{first_unknown}
+use Rattle.offer_moves.specs.Fields.{first_unknown}
 use Rattle.offer_text.specs.Words.{with_optional}
 use Rattle.read_back.proofs.Texts.{after, all_below, in_order, is_greater, object_is, with_field, AreRead, IsRead}
 

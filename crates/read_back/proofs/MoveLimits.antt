@@ -8,11 +8,11 @@ use Rattle.hash_signature.specs.declared.sig.Sig.{Sig}
 use Rattle.hashkey_path.specs.declared.hashkey.Hashkey.{Hashkey}
 use Rattle.swap_job.specs.declared.moves.Move.{Move}
 use Rattle.swap_job.specs.declared.moves.Move.TheVariants.{Publish, Craft, Replay, Raw, Claim, Refund, Transfer, Wait}
-use Rattle.offer_fields.specs.Limits.{to_digest, ranged_number, check_range}
-use Rattle.offer_fields.specs.Lists.{collected_results}
-use Rattle.offer_fields.specs.Names.{party_of_name}
-use Rattle.offer_fields.proofs.Chains.{each_all, each_length}
-use Rattle.offer_fields.proofs.Ranges.{number_within_ok, party_below, within_ok}
+use Rattle.offer_moves.specs.FieldLimits.{to_digest, ranged_number, check_range}
+use Rattle.offer_moves.specs.Lists.{collected_results}
+use Rattle.offer_moves.specs.Names.{party_of_name}
+use Rattle.offer_moves.proofs.Chains.{each_all, each_length}
+use Rattle.offer_moves.proofs.Ranges.{number_within_ok, party_below, within_ok}
 use Rattle.offer_moves.specs.Limits.{kept, limited_locks, number_below_count, optional_locks, optional_most, parse_sig}
 use Rattle.offer_moves.specs.Moves.{parse_arc, parse_claim, parse_craft, checked_hashkey, parse_move, optional_arc, make_publish, parse_refund, parse_replay}
 use Rattle.offer_moves.specs.Moves.{parse_transfer}

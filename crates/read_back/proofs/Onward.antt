@@ -1,7 +1,7 @@
 -- What holds of whatever a chain of steps gives.
 use Rattle.std.proofs.Common.{◌≡◌, Result, Ok, Err, refl, subst}
 use Rattle.swap_base.specs.Fault.{◌>>=◌}
-use Rattle.refusals.specs.declared.reason.Reason.{Reason}
+use Rattle.command_input.specs.declared.reason.Reason.{Reason}
 
 -- what holds of every answer of the steps after the first holds of the chain's
 pub onward : {A B : Type 0} (m : Result A Reason) (f : A → Result B Reason) (P : B → Type 0) → ((x : A) → m ≡ Ok x → (y : B) → f x ≡ Ok y → P y)

@@ -8,7 +8,7 @@ use Rattle.swap_job.specs.declared.event.Event.{Event}
 use Rattle.swap_job.specs.declared.job.Job.{Job}
 use Rattle.swap_job.specs.declared.job.Purpose.{Purpose}
 use Rattle.swap_job.specs.declared.job.Purpose.TheVariants.{Make, Run}
-use Rattle.offer_fields.proofs.Chains.{went}
+use Rattle.offer_moves.proofs.Chains.{went}
 use Rattle.offer_text.specs.HeaderLine.{header_line, made_header}
 use Rattle.swap_offer.specs.Job.{counted, parse_job_events, parse_events, events_unless, parse_header_job, parse_job, job_of_lines}
 use Rattle.command_input.specs.Lines.{filled_lines, is_blank, collect_lines}
@@ -16,7 +16,7 @@ use Rattle.swap_gen.specs.Made.{made}
 use Rattle.made_jobs.specs.Making.{made_lines_output, made_output, made_text, written_line}
 use Rattle.read_back.proofs.Onward.{ok_is}
 use Rattle.read_back.proofs.Steps.{step}
-use Rattle.transcript_lines.specs.Between.{fed_lines}
+use Rattle.transcript_book.specs.Between.{fed_lines}
 use Rattle.read_back.specs.Made.{further_lines, numbered_lines, reads_jobs, told_job, with_job, HasTexts, IsOneLine}
 use Rattle.read_back.specs.Made.{MadeHeaderIsOneLine, MadeHeaderIsReadBack, MadeHeaderReads, MadeOutputIsReadBack, MadeTextIsReadBack}
 use Rattle.read_back.proofs.HeaderTexts as texts

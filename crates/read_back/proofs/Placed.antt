@@ -10,9 +10,9 @@ use Rattle.swap_job.specs.declared.job.Role.{Role}
 use Rattle.swap_job.specs.declared.job.Role.TheVariants.{Conforming, Manual, Script, Strategy}
 use Rattle.swap_job.specs.declared.moves.Move.{Move}
 use Rattle.swap_job.specs.declared.moves.Move.TheVariants.{Publish, Craft, Replay, Raw, Claim, Refund, Transfer, Wait}
-use Rattle.refusals.specs.declared.reason.Reason.TheVariants.{NotAdjacent}
-use Rattle.offer_fields.proofs.Chains.{went}
-use Rattle.offer_fields.proofs.Ranges.{passed}
+use Rattle.command_input.specs.declared.reason.Reason.TheVariants.{NotAdjacent}
+use Rattle.offer_moves.proofs.Chains.{went}
+use Rattle.offer_moves.proofs.Ranges.{passed}
 use Rattle.offer_moves.specs.Placed.{adjacent, crafted_by_others, deviating, placed, received}
 use Rattle.offer_header.specs.Scripts.{role_placed, roles_placed}
 use Rattle.read_back.proofs.Steps.{step}

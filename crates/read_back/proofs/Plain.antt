@@ -20,10 +20,10 @@ use Rattle.swap_job.specs.Roles.{is_conforming}
 use Rattle.swap_job.specs.declared.job.Job.{Job}
 use Rattle.swap_job.specs.declared.job.Purpose.{Purpose}
 use Rattle.swap_job.specs.declared.job.Purpose.TheVariants.{Check, Run, Race, Make, Audit}
-use Rattle.refusals.specs.declared.reason.Reason.{Reason}
-use Rattle.refusals.specs.declared.reason.Reason.TheVariants.{NoSeed, WrongWallet}
+use Rattle.command_input.specs.declared.reason.Reason.{Reason}
+use Rattle.command_input.specs.declared.reason.Reason.TheVariants.{NoSeed, WrongWallet}
 use Rattle.swap_rules.proofs.Accepted.{accepted_is_well_sized}
-use Rattle.proposed_deal.specs.Proposed.{HaveSeeds, IsProposed}
+use Rattle.swap_offer.specs.Proposed.{HaveSeeds, IsProposed}
 use Rattle.offer_header.specs.Names.{is_name}
 use Rattle.offer_header.specs.Scripts.{roles_placed}
 use Rattle.offer_text.specs.HeaderLine.{is_make}

@@ -4,7 +4,7 @@ use Rattle.std.specs.Prelude.{codes}
 use Rattle.std.specs.Str.{bytes_eq, IsUtf8}
 use Rattle.std.specs.List.{list_any, AllByRecursion}
 use Rattle.hashkey_path.proofs.Validity.{bytes_eq-true}
-use Rattle.deviators.specs.Program.{program_names}
+use Rattle.swap_run.specs.Program.{program_names}
 use Rattle.read_back.proofs.HeaderShown.{field}
 use Rattle.read_back.specs.Made.{ProgramHasTexts}
 

@@ -12,8 +12,8 @@ use Rattle.hash_signature.specs.declared.sig.Sig.{Sig}
 use Rattle.hashkey_path.specs.declared.hashkey.Hashkey.{Hashkey}
 use Rattle.swap_job.specs.declared.moves.Move.{Move}
 use Rattle.swap_job.specs.declared.moves.Move.TheVariants.{Publish, Craft, Replay, Raw, Claim, Refund, Transfer, Wait}
-use Rattle.offer_fields.specs.Fields.{read_array_field, each, kind, field_list, text_member, needed, no_unknown, field_number, required_object, only, present}
-use Rattle.offer_fields.specs.Fields.{optional_number, optional_field_number, field_text}
+use Rattle.offer_moves.specs.Fields.{read_array_field, each, kind, field_list, text_member, needed, no_unknown, field_number, required_object, only, present}
+use Rattle.offer_moves.specs.Fields.{optional_number, optional_field_number, field_text}
 use Rattle.offer_moves.specs.Reading.{raw_claim_move, raw_craft_move, craft_fields, raw_crafting, raw_hashkey, move_kind, word_move_kind, stated_raw_move, optional_texts, optional_field_texts}
 use Rattle.offer_moves.specs.Reading.{raw_publish_move, publish_fields, raw_unlock_move, raw_fields, raw_refund_move, raw_replay_move, raw_move_of_kind, script_move, raw_publish_terms, field_texts}
 use Rattle.offer_moves.specs.Reading.{list_texts}

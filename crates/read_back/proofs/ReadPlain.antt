@@ -13,10 +13,10 @@ use Rattle.swap_job.specs.declared.job.Purpose.{Purpose}
 use Rattle.swap_job.specs.declared.job.Purpose.TheVariants.{Make}
 use Rattle.swap_job.specs.declared.job.Role.{Role}
 use Rattle.swap_job.specs.declared.job.Role.TheVariants as kinds
-use Rattle.offer_fields.specs.Fields.{parse_data}
-use Rattle.offer_fields.specs.Limits.{check_range}
-use Rattle.offer_fields.specs.Lists.{collected_results}
-use Rattle.offer_fields.proofs.Chains.{each_all, each_length, went}
+use Rattle.offer_moves.specs.Fields.{parse_data}
+use Rattle.offer_moves.specs.FieldLimits.{check_range}
+use Rattle.offer_moves.specs.Lists.{collected_results}
+use Rattle.offer_moves.proofs.Chains.{each_all, each_length, went}
 use Rattle.offer_moves.specs.Moves.{parse_move}
 use Rattle.offer_moves.specs.declared.moves.Sizes.{Sizes}
 use Rattle.offer_header.specs.Header.{parse_whole_header, IsHeaderInLimits}
@@ -35,9 +35,9 @@ use Rattle.offer_header.specs.declared.raw.RawParty.{RawParty}
 use Rattle.offer_header.proofs.Held.{are_held}
 use Rattle.offer_header.proofs.Limited.{set_contains_ends, opened, Opened}
 use Rattle.offer_header.proofs.Numbered.{is_numbered}
-use Rattle.offer_fields.specs.Limits.{to_digest}
-use Rattle.offer_fields.proofs.Ranges.{within_ok}
-use Rattle.proposed_deal.specs.Proposed.{IsProposed}
+use Rattle.offer_moves.specs.FieldLimits.{to_digest}
+use Rattle.offer_moves.proofs.Ranges.{within_ok}
+use Rattle.swap_offer.specs.Proposed.{IsProposed}
 use Rattle.swap_offer.specs.Checks.{admitted, header_deal, header_digraph, assemble_job, IsAcceptedOrProposed}
 use Rattle.swap_offer.specs.Job.{accepted_entries, parse_header_job, provided}
 use Rattle.swap_offer.specs.Wallets.{seeded, walleted, HaveRequiredSeeds}

@@ -10,7 +10,7 @@ use Rattle.hashkey_path.proofs.Validity.{bytes_eq-true, bytes_eq_self}
 use Rattle.swap_digraph.specs.declared.arc_ends.ArcEnds.{ArcEnds}
 use Rattle.swap_digraph.specs.Graph.{resolve_all_ends, is_listed}
 use Rattle.swap_digraph.proofs.Paths.{in-is_listed}
-use Rattle.offer_fields.specs.Names.{found_place, party_of_name}
+use Rattle.offer_moves.specs.Names.{found_place, party_of_name}
 use Rattle.offer_header.specs.Names.{is_name}
 use Rattle.swap_clear.specs.declared.answer.Group.{Group}
 use Rattle.swap_clear.specs.declared.proposed.Proposed.{Proposed}
@@ -20,9 +20,9 @@ use Rattle.swap_clear.specs.Led.{own, own_leaders, IsLed}
 use Rattle.swap_clear.specs.Ready.{own_amounts, IsReady}
 use Rattle.swap_clear.specs.Together.{IsGroup}
 use Rattle.swap_clear.proofs.Places.{stands}
-use Rattle.clear_line.specs.Limits.{AreWishesInLimits}
-use Rattle.clear_line.specs.declared.limits.Wishes.{Wishes}
-use Rattle.clear_line.specs.ClearedText.{proposal}
+use Rattle.swap_clear.specs.Limits.{AreWishesInLimits}
+use Rattle.swap_clear.specs.declared.limits.Wishes.{Wishes}
+use Rattle.swap_clear.specs.ClearedText.{proposal}
 use Rattle.read_back.specs.ClearedJobs.{wished_name, wished_graph}
 use Rattle.read_back.proofs.Lists.{position_is, same_position}
 

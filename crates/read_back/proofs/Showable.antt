@@ -19,13 +19,13 @@ use Rattle.swap_digraph.specs.declared.deal.Mode.TheVariants.{Timelocks, Hashkey
 use Rattle.swap_job.specs.declared.job.Job.{Job}
 use Rattle.swap_job.specs.declared.job.Purpose.{Purpose}
 use Rattle.swap_job.specs.declared.job.Purpose.TheVariants.{Check, Run, Race, Make, Audit}
-use Rattle.refusals.specs.declared.reason.Reason.{Reason}
-use Rattle.refusals.specs.declared.reason.Reason.TheVariants.{BadName, Duplicate}
+use Rattle.command_input.specs.declared.reason.Reason.{Reason}
+use Rattle.command_input.specs.declared.reason.Reason.TheVariants.{BadName, Duplicate}
 use Rattle.swap_rules.specs.Accepted.{IsAccepted}
-use Rattle.offer_fields.specs.Fields.{field_list, field_number, parse_data, only}
-use Rattle.offer_fields.specs.Limits.{decoded, to_digest, check_range}
-use Rattle.offer_fields.specs.Lists.{collected_results}
-use Rattle.offer_fields.proofs.Chains.{each_all}
+use Rattle.offer_moves.specs.Fields.{field_list, field_number, parse_data, only}
+use Rattle.offer_moves.specs.FieldLimits.{decoded, to_digest, check_range}
+use Rattle.offer_moves.specs.Lists.{collected_results}
+use Rattle.offer_moves.proofs.Chains.{each_all}
 use Rattle.offer_header.specs.Raw.{object_arc, finish_member, header_fields, is_plain, keys_member, object_leader, mode_member, parse_party, object_header, states_keys}
 use Rattle.offer_header.specs.Raw.{version_member}
 use Rattle.offer_header.specs.Raw.{IsVersionMode, IsUntimed}

@@ -6,7 +6,7 @@ use Rattle.swap_base.specs.Text.{joined}
 use Rattle.hash_signature.specs.Signature.{text_values}
 use Rattle.hash_signature.specs.declared.sig.Sig.{Sig}
 use Rattle.hash_signature.proofs.Values.{joined-text_values}
-use Rattle.offer_fields.specs.Limits.{decoded}
+use Rattle.offer_moves.specs.FieldLimits.{decoded}
 use Rattle.offer_moves.specs.Limits.{parse_sig}
 use Rattle.read_back.proofs.Onward.{landed, onward}
 use Rattle.read_back.proofs.Showable.{decoded_bytes}

@@ -8,9 +8,9 @@ use Rattle.swap_base.specs.Fault.{◌>>=◌}
 use Rattle.swap_base.specs.Lists.{IsElement}
 use Rattle.serde_json.specs.Data.{Data}
 use Rattle.serde_json.specs.View.{items_of}
-use Rattle.refusals.specs.declared.reason.Reason.{Reason}
-use Rattle.offer_fields.specs.Lists.{collected_results}
-use Rattle.offer_fields.specs.Fields.{each}
+use Rattle.command_input.specs.declared.reason.Reason.{Reason}
+use Rattle.offer_moves.specs.Lists.{collected_results}
+use Rattle.offer_moves.specs.Fields.{each}
 
 -- the step was read
 pub step : {A B : Type 0} (r : Result A Reason) (x : A) (f : A → Result B Reason) → r ≡ Ok x → (r >>= f) ≡ f x

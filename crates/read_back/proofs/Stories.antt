@@ -5,8 +5,8 @@ use Rattle.ledger_core.specs.Book.{Histories}
 use Rattle.swap_digraph.specs.Deal.{IsWellSized}
 use Rattle.swap_job.specs.declared.job.Job.{Job}
 use Rattle.command_input.specs.Lines.{collect_lines}
-use Rattle.transcript_lines.specs.Lines.{IsWholeTranscript}
-use Rattle.transcript_lines.proofs.Stories.{one_story}
+use Rattle.transcript_book.specs.Lines.{IsWholeTranscript}
+use Rattle.transcript_book.proofs.Stories.{one_story}
 use Rattle.transcript_book.proofs.Complete.{few_arcs, stated_from}
 use Rattle.transcript_book.proofs.OneLine.{book_lines}
 use Rattle.read_back.specs.Made.{IsOneLine, WholeTextHasOneStory}

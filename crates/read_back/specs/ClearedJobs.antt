@@ -27,10 +27,10 @@ use Rattle.swap_clear.specs.declared.answer.Group.{Group}
 use Rattle.swap_clear.specs.Proposals.{proposed_graph}
 use Rattle.swap_clear.specs.Led.{own, own_leaders}
 use Rattle.swap_clear.specs.Ready.{own_amounts}
-use Rattle.clear_line.specs.Cleared.{parse_cleared}
-use Rattle.clear_line.specs.declared.cleared.Cleared.{Cleared}
-use Rattle.clear_line.specs.declared.limits.Wishes.{Wishes}
-use Rattle.clear_line.specs.ClearedText.{group_fields, group_data, named_data}
+use Rattle.swap_clear.specs.Cleared.{parse_cleared}
+use Rattle.swap_clear.specs.declared.cleared.Cleared.{Cleared}
+use Rattle.swap_clear.specs.declared.limits.Wishes.{Wishes}
+use Rattle.swap_clear.specs.ClearedText.{group_fields, group_data, named_data}
 
 -- ---- the line of a group, with seeds
 

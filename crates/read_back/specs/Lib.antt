@@ -1,3 +1,4 @@
 pub mod Headers
 pub mod ClearedJobs
 pub mod Made
+pub mod Texts

@@ -8,9 +8,9 @@ use Rattle.swap_job.specs.declared.event.Event.{Event}
 use Rattle.swap_job.specs.declared.job.Job.{Job}
 use Rattle.swap_job.specs.declared.job.Purpose.{Purpose}
 use Rattle.swap_job.specs.declared.job.Purpose.TheVariants.{Check, Run, Race, Make}
-use Rattle.deviators.specs.Program.{program_names}
+use Rattle.swap_run.specs.Program.{program_names}
 use Rattle.offer_header.specs.Names.{has_strategy}
-use Rattle.refusals.specs.declared.reason.Reason.{Reason}
+use Rattle.command_input.specs.declared.reason.Reason.{Reason}
 use Rattle.offer_text.specs.HeaderLine.{header_line, made_header}
 use Rattle.swap_run.specs.Asked.{with_answers, Answers}
 use Rattle.swap_run.specs.Fair.{finish}
@@ -25,8 +25,8 @@ use Rattle.made_jobs.specs.Generating.{generated_book, generated_text}
 use Rattle.made_jobs.specs.Making.{made_output}
 use Rattle.ledger_core.specs.Book.{Histories}
 use Rattle.swap_digraph.specs.Deal.{IsWellSized}
-use Rattle.transcript_lines.specs.Between.{fed_lines}
-use Rattle.transcript_lines.specs.Lines.{IsWholeTranscript}
+use Rattle.transcript_book.specs.Between.{fed_lines}
+use Rattle.transcript_book.specs.Lines.{IsWholeTranscript}
 
 -- ---- what is read
 

@@ -27,7 +27,7 @@ use Rattle.swap_clear.proofs.Together.{are_groups, made}
 use Rattle.swap_clear.proofs.Places.{own_strong}
 use Rattle.swap_clear.proofs.Leading.{is_led, has_cycles, no_fewer, is_bound}
 use Rattle.swap_clear.proofs.Deals.{makes_a_deal}
-use Rattle.swap_clear.proofs.Cleared.{cleared}
+use Rattle.swap_clear.proofs.ClearedGroups.{cleared}
 
 -- what holds of each clearing that the definition gives holds of the answer
 pub if_cleared : (n : ℕ) (arcs : List Proposed) (P : Clearing → Type 0) (r : Result Clearing (Fault ClearReason)) → Gives (λ c. c) r (cleared_groups n arcs)

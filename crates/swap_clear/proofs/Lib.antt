@@ -5,10 +5,15 @@ pub mod Cyclic
 pub mod Gathered
 pub mod Together
 pub mod Places
-pub mod Cleared
+pub mod ClearedGroups
 pub mod Remaining
 pub mod Leading
 pub mod Sizes
 pub mod Deals
 pub mod ClearingAnswers
 pub mod Refusals
+pub mod Each
+pub mod Named
+pub mod Within
+pub mod Texts
+pub mod Floats

@@ -23,7 +23,7 @@ use Rattle.swap_clear.specs.Leaders.{choose_leaders, order}
 use Rattle.swap_clear.specs.Led.{SoManyRemain}
 use Rattle.swap_clear.specs.Clearing.{add_group, cleared_components, cleared_groups}
 use Rattle.swap_clear.specs.Refused.{IsSoundArc, IsFault}
-use Rattle.swap_clear.proofs.Cleared.{sound}
+use Rattle.swap_clear.proofs.ClearedGroups.{sound}
 use Rattle.swap_clear.proofs.Leading.{lead_remain}
 use Rattle.swap_clear.proofs.Places.{own_has_ends}
 use Rattle.swap_clear.proofs.Remaining.{is_order}

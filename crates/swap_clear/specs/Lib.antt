@@ -8,3 +8,8 @@ pub mod Led
 pub mod Ready
 pub mod Refused
 pub mod Rows
+pub mod Fields
+pub mod Names
+pub mod Limits
+pub mod Cleared
+pub mod ClearedText

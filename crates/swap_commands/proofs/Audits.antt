@@ -2,8 +2,8 @@
 use Rattle.std.proofs.Common.{◌≡◌, inl, inr, ℕ, Bool, true, false, List, Option, Result, Ok, Err, sym, ap}
 use Rattle.swap_io.specs.Causes.{AppendsProperPrefix}
 use Rattle.swap_io.specs.Handed.{AppendsPrefix}
-use Rattle.refusals.specs.declared.refusal.Refusal.{Refusal}
-use Rattle.refusals.specs.Refusal.{refusal}
+use Rattle.command_input.specs.declared.refusal.Refusal.{Refusal}
+use Rattle.command_input.specs.Refusal.{refusal}
 use Rattle.audit_command.specs.Output.{audit_output}
 use Rattle.audit_command.specs.Says.{AuditSays, HasAuditAnswer, HasAuditOutput}
 use Rattle.command_input.specs.declared.status.Status.{Status}

@@ -3,12 +3,12 @@ use Rattle.std.proofs.Common.{◌≡◌, ℕ, Bool, true, false, List, [], ◌�
 use Rattle.swap_base.specs.Fault.{Fails}
 use Rattle.swap_base.specs.declared.fault.Fault.{Fault}
 use Rattle.swap_base.specs.declared.fault.Fault.TheVariants as offer
-use Rattle.refusals.specs.declared.reason.Reason.{Reason}
-use Rattle.refusals.specs.declared.reason.Reason.TheVariants.{BadLine, NotJson}
-use Rattle.refusals.specs.declared.refusal.Refusal.{Refusal}
+use Rattle.command_input.specs.declared.reason.Reason.{Reason}
+use Rattle.command_input.specs.declared.reason.Reason.TheVariants.{BadLine, NotJson}
+use Rattle.command_input.specs.declared.refusal.Refusal.{Refusal}
 use Rattle.command_input.specs.Lines.{collect_lines, filled_lines}
 use Rattle.swap_world.specs.Gone.{MayGive}
-use Rattle.clear_line.specs.ClearedText.{cleared_line, IsClearedLine}
+use Rattle.swap_clear.specs.ClearedText.{cleared_line, IsClearedLine}
 use Rattle.swap_commands.specs.Cleared.{IsCleared, IsFurther}
 use Rattle.command_input.specs.Faults.{named_fault, of_offer}
 use Rattle.command_input.specs.Input.{InputProgress, Desk, Ends, GivesLine, IsLast, IsLine, Stops, Tells, ahead, desk, fresh}

@@ -4,8 +4,8 @@ use Rattle.swap_base.specs.Fault.{◌>>=◌}
 use Rattle.command_input.proofs.Ahead.{stands_on}
 use Rattle.command_input.proofs.Streams.{can_come, stops_as, stops_same}
 use Rattle.swap_job.specs.declared.job.Finish.{Finish}
-use Rattle.refusals.specs.declared.reason.Reason.{Reason}
-use Rattle.refusals.specs.declared.refusal.Refusal.{Refusal}
+use Rattle.command_input.specs.declared.reason.Reason.{Reason}
+use Rattle.command_input.specs.declared.refusal.Refusal.{Refusal}
 use Rattle.command_input.specs.Written.{StatusWrites, Written}
 use Rattle.command_input.specs.Lines.{collect_lines, filled_lines}
 use Rattle.swap_run.specs.Asked.{Answers}

@@ -22,12 +22,12 @@ use Rattle.swap_world.specs.Gone.{MayGive}
 use Rattle.outcome_rules.specs.Report.{is_conforming_party, deal_outcomes, build_report}
 use Rattle.outcome_rules.specs.Promises.{AllAreConforming}
 use Rattle.outcome_rules.proofs.Promises as laws
-use Rattle.refusals.specs.declared.reason.Reason.{Reason}
+use Rattle.command_input.specs.declared.reason.Reason.{Reason}
 use Rattle.swap_offer.specs.Job.{counted, parse_job_events, parse_events, parse_header_job, job_of_lines}
 use Rattle.swap_gen.specs.Made.{made}
 use Rattle.made_jobs.specs.Making.{copied, line_step, with_copied_line, written_line, IsMade}
 use Rattle.made_jobs.proofs.Copying.{lines_put}
-use Rattle.offer_fields.proofs.Chains.{went}
+use Rattle.offer_moves.proofs.Chains.{went}
 use Rattle.command_input.specs.Written.{Written}
 use Rattle.swap_commands.specs.Output.{AreGiven, command_cast, run_state, collected_book, finished_state, book_report, reported, written_check}
 use Rattle.swap_world.specs.Recorded.{AreRecorded}

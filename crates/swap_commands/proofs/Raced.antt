@@ -16,8 +16,8 @@ use Rattle.swap_job.specs.declared.event.Event.{Event}
 use Rattle.swap_job.specs.declared.job.Job.{Job}
 use Rattle.swap_job.specs.declared.job.Purpose.{Purpose}
 use Rattle.swap_job.specs.declared.job.Purpose.TheVariants as purposes
-use Rattle.refusals.specs.declared.reason.Reason.{Reason}
-use Rattle.refusals.specs.declared.reason.Reason.TheVariants.{OverLimit}
+use Rattle.command_input.specs.declared.reason.Reason.{Reason}
+use Rattle.command_input.specs.declared.reason.Reason.TheVariants.{OverLimit}
 use Rattle.swap_rules.specs.declared.finding.Finding.{Finding}
 use Rattle.swap_rules.specs.declared.finding.Finding.TheVariants.{Broke, Late, Forged, Unfinished}
 use Rattle.swap_rules.specs.declared.finding.Rule.{Rule}
@@ -27,8 +27,8 @@ use Rattle.swap_rules.specs.Forged.{is_forged}
 use Rattle.swap_rules.specs.Findings.{broken, failing, findings, party_findings, forgeries, arc_late_findings, lates, or_zero, deal_rules, unfinished}
 use Rattle.swap_rules.specs.Laws.{IsOnTime}
 use Rattle.swap_world.specs.Actors.{ConformingHaveSeeds}
-use Rattle.offer_fields.proofs.Chains.{went}
-use Rattle.offer_fields.specs.Fields.{parse_data}
+use Rattle.offer_moves.proofs.Chains.{went}
+use Rattle.offer_moves.specs.Fields.{parse_data}
 use Rattle.offer_events.specs.Event.{asked_event, checked_event, conforming_crash, parse_event, outside_race}
 use Rattle.offer_events.specs.Reading.{raw_event}
 use Rattle.swap_offer.specs.Job.{parse_events, limited_event, IsWholeJob}

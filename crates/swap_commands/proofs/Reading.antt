@@ -8,11 +8,11 @@ use Rattle.ledger_core.specs.Book.{Histories}
 use Rattle.swap_job.specs.declared.job.Job.{Job}
 use Rattle.swap_job.specs.declared.job.Purpose.{Purpose}
 use Rattle.swap_job.specs.declared.job.Purpose.TheVariants as purposes
-use Rattle.refusals.specs.declared.reason.Reason.{Reason}
-use Rattle.refusals.specs.declared.reason.Reason.TheVariants.{NotJson}
-use Rattle.refusals.specs.declared.refusal.Refusal.{Refusal}
-use Rattle.refusals.specs.Refusal.{named_result}
-use Rattle.refusals.proofs.Named.{named_err}
+use Rattle.command_input.specs.declared.reason.Reason.{Reason}
+use Rattle.command_input.specs.declared.reason.Reason.TheVariants.{NotJson}
+use Rattle.command_input.specs.declared.refusal.Refusal.{Refusal}
+use Rattle.command_input.specs.Refusal.{named_result}
+use Rattle.command_input.proofs.Named.{named_err}
 use Rattle.command_input.specs.Lines.{collect_lines, filled_lines}
 use Rattle.swap_offer.specs.Job.{parse_header_job, parse_job, header_names, offer_line_names, job_of_lines}
 use Rattle.swap_run.specs.Run.{State, start, step}

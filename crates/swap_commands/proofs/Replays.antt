@@ -12,7 +12,7 @@ use Rattle.swap_base.specs.Fault.{◌>>=◌}
 use Rattle.swap_job.specs.declared.job.Job.{Job}
 use Rattle.swap_job.specs.declared.event.Event.{Event}
 use Rattle.swap_job.specs.declared.job.Role.{Role}
-use Rattle.refusals.specs.declared.reason.Reason.{Reason}
+use Rattle.command_input.specs.declared.reason.Reason.{Reason}
 use Rattle.command_input.specs.Lines.{collect_lines, filled_lines}
 use Rattle.swap_offer.specs.Job.{parse_events, limited_event, parse_job, parse_header_job, job_of_lines}
 use Rattle.swap_digraph.specs.declared.deal.Deal.{Deal}

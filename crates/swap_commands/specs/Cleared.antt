@@ -1,9 +1,9 @@
 -- An input of wishes: one line, and no further one that isn't blank.
 use Rattle.std.specs.Prelude.{◌≡◌, ℕ, List, [], ◌∷◌, Err}
-use Rattle.refusals.specs.declared.refusal.Refusal.{Refusal}
+use Rattle.command_input.specs.declared.refusal.Refusal.{Refusal}
 use Rattle.command_input.specs.Lines.{collect_lines, filled_lines}
 use Rattle.command_input.specs.Written.{Written}
-use Rattle.clear_line.specs.ClearedText.{IsClearedLine}
+use Rattle.swap_clear.specs.ClearedText.{IsClearedLine}
 use Rattle.command_input.specs.Input.{InputProgress, ahead}
 use Rattle.swap_commands.specs.Output.{refuse_further_line, plain_text}
 

@@ -10,7 +10,7 @@ use Rattle.swap_offer.specs.Job.{IsWholeJob}
 use Rattle.swap_offer.specs.Wallets.{HaveScripts, HaveWallets}
 use Rattle.swap_offer.specs.declared.prepared.Prepared.{Prepared}
 use Rattle.swap_world.specs.Actors.{AreHeld}
-use Rattle.refusals.specs.declared.refusal.Refusal.{Refusal}
+use Rattle.command_input.specs.declared.refusal.Refusal.{Refusal}
 use Rattle.command_input.specs.Input.{InputProgress, HasStopped, desk, fresh, limit}
 use Rattle.command_input.specs.declared.fault.InputFault.{InputFault}
 use Rattle.swap_commands.specs.Replay.{IsEntered}

@@ -10,13 +10,13 @@ use Rattle.swap_job.specs.declared.job.Job.{Job}
 use Rattle.swap_job.specs.declared.job.Purpose.TheVariants as purposes
 use Rattle.outcome_rules.specs.declared.report.Report.{Report}
 use Rattle.outcome_rules.specs.Report.{build_report}
-use Rattle.report_text.specs.Report.{report}
-use Rattle.transcript_lines.specs.Lines.{transcript as transcript_text}
+use Rattle.run_texts.specs.Report.{report}
+use Rattle.transcript_book.specs.Lines.{transcript as transcript_text}
 use Rattle.audit_command.specs.Output.{audit_output}
-use Rattle.refusals.specs.declared.reason.Reason.{Reason}
-use Rattle.refusals.specs.declared.reason.Reason.TheVariants.{BadLine, NotJson}
-use Rattle.clear_line.specs.ClearedText.{cleared_line}
-use Rattle.refusals.specs.declared.refusal.Refusal.{Refusal}
+use Rattle.command_input.specs.declared.reason.Reason.{Reason}
+use Rattle.command_input.specs.declared.reason.Reason.TheVariants.{BadLine, NotJson}
+use Rattle.swap_clear.specs.ClearedText.{cleared_line}
+use Rattle.command_input.specs.declared.refusal.Refusal.{Refusal}
 use Rattle.swap_job.specs.declared.job.Purpose.{Purpose}
 use Rattle.swap_offer.specs.Checks.{deal_need}
 use Rattle.command_input.specs.Lines.{collect_lines, filled_lines}

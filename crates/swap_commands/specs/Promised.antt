@@ -20,7 +20,7 @@ use Rattle.outcome_rules.specs.Promises.{AllAreConforming, AllAreWhole, AllHaveR
 use Rattle.swap_auditor.specs.Audit.{AreUnitsConserved}
 use Rattle.command_input.specs.Written.{Written}
 use Rattle.audit_command.specs.Promised.{IsAudit}
-use Rattle.refusals.specs.declared.reason.Reason.{Reason}
+use Rattle.command_input.specs.declared.reason.Reason.{Reason}
 use Rattle.swap_offer.specs.Job.{parse_job}
 use Rattle.command_input.specs.Lines.{collect_lines, filled_lines}
 use Rattle.swap_many.specs.Chains.{Setup}

@@ -5,8 +5,8 @@ use Rattle.swap_job.specs.declared.job.Job.{Job}
 use Rattle.swap_job.specs.declared.event.Event.{Event}
 use Rattle.swap_job.specs.declared.job.Purpose.{Purpose}
 use Rattle.swap_job.specs.declared.job.Purpose.TheVariants as purposes
-use Rattle.refusals.specs.declared.reason.Reason.{Reason}
-use Rattle.refusals.specs.declared.reason.Reason.TheVariants.{NotJson}
+use Rattle.command_input.specs.declared.reason.Reason.{Reason}
+use Rattle.command_input.specs.declared.reason.Reason.TheVariants.{NotJson}
 use Rattle.offer_events.specs.Event.{needs_seeds}
 use Rattle.swap_offer.specs.Job.{IsWholeJob, parse_events, parse_header_job}
 use Rattle.command_input.specs.Lines.{collect_lines, filled_lines}

@@ -4,8 +4,8 @@ use Rattle.std.specs.Prelude.{◌≡◌, ◌≤◌, ◌+◌, ◌⊎◌, ℕ, Boo
 use Rattle.std.specs.Io.KnownBytes.{Consumes, IsAtEnd, Keeps}
 use Rattle.swap_io.specs.Causes.{ConsumesAtMost, ConsumesSome, AppendsProperPrefix}
 use Rattle.swap_io.specs.Handed.{AppendsPrefix}
-use Rattle.refusals.specs.declared.reason.Reason.{Reason}
-use Rattle.refusals.specs.declared.refusal.Refusal.{Refusal}
+use Rattle.command_input.specs.declared.reason.Reason.{Reason}
+use Rattle.command_input.specs.declared.refusal.Refusal.{Refusal}
 use Rattle.command_input.specs.Written.{IsWrittenWhole, Written}
 use Rattle.command_input.specs.Input.{limit}
 use Rattle.swap_world.specs.Gone.{MayGive}

@@ -16,15 +16,14 @@ ghost use Rattle.swap_commands.specs.Strategies.{given_strategies};
 
 use crate::header::first_line;
 use crate::replay::skip_events;
-use command_input::{Input, InputFault, Status, unread};
-use deviators::Strategies;
-use refusals::Refusal;
+use command_input::{Input, InputFault, Refusal, Status, unread};
 use std::alloc::Global;
 use swap_base::{ByteText, NoMemory, Piece, put};
 use swap_digraph::Deal;
 use swap_io::{Sink, Source, write_all};
 use swap_job::{Job, Purpose};
 use swap_offer::Prepared;
+use swap_run::Strategies;
 use time_bounds::{horizon, last_expiry, opening_deadline};
 
 /// What a check writes for an accepted deal.

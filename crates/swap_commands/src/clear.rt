@@ -1,7 +1,7 @@
 //! The command `clear`: wishes are read, and what of them can be swapped is written.
 
 ghost use Rattle.std.specs.Prelude.{◌≡◌, ℕ, Bool, List, IfOk, IfErr, OnOk};
-ghost use Rattle.clear_line.specs.ClearedText.{IsClearedLine};
+ghost use Rattle.swap_clear.specs.ClearedText.{IsClearedLine};
 ghost use Rattle.swap_commands.specs.Cleared.{IsCleared, IsFurther};
 ghost use Rattle.command_input.specs.Input.{Ends, Fits, IsLast, IsLine, Stops, desk, fresh};
 ghost use Rattle.command_input.specs.Streams.{streams};
@@ -11,13 +11,12 @@ ghost use Rattle.swap_commands.specs.Words.{Clear};
 ghost use Rattle.swap_commands.specs.Strategies.{given_strategies};
 
 use crate::make::write_plain_text;
-use clear_line::cleared_line;
-use command_input::{Input, InputFault, Status, no_line, unread};
-use deviators::Strategies;
-use refusals::{Reason, Refusal};
+use command_input::{Input, InputFault, Reason, Refusal, Status, no_line, unread};
 use std::alloc::Global;
 use swap_base::Listed;
+use swap_clear::cleared_line;
 use swap_io::{Sink, Source};
+use swap_run::Strategies;
 
 /// The text of an input's first line, or what is said against it.
 fn first_wishes<S: Source>(

@@ -12,9 +12,9 @@ ghost use Rattle.outcome_rules.specs.Promises.{AllAreConforming};
 ghost use Rattle.made_jobs.specs.Generating.{IsJobWorld};
 ghost use Rattle.swap_commands.specs.Output.{finished_state};
 
-use deviators::Strategies;
 use swap_base::NoMemory;
 use swap_job::{Finish, Job};
+use swap_run::Strategies;
 use swap_world::World;
 
 /// Finishes the world as its job asks.

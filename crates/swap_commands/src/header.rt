@@ -11,14 +11,13 @@ ghost use Rattle.swap_commands.specs.Output.{command_purpose};
 ghost use Rattle.swap_commands.specs.Says.{IsCommandRefusal};
 ghost use Rattle.swap_commands.specs.Words.{JobCommand, OfJob};
 
-use command_input::{Input, InputFault, no_line};
-use deviators::Strategies;
-use refusals::Refusal;
+use command_input::{Input, InputFault, Refusal, no_line};
 use std::alloc::Global;
 use swap_base::{ByteText, Listed, NoMemory};
 use swap_io::Source;
 use swap_job::Purpose;
 use swap_offer::{Prepared, read_header};
+use swap_run::Strategies;
 
 /// The names under which there is a strategy.
 pub(crate) fn strategy_names<A: Strategies>(strategies: &A) -> Result<Listed<ByteText>, NoMemory>

@@ -13,14 +13,13 @@ ghost use Rattle.swap_commands.specs.Words.{Make, OfJob};
 ghost use Rattle.swap_commands.specs.Strategies.{given_strategies};
 
 use crate::header::first_line;
-use command_input::{Input, InputFault, Status, unread};
-use deviators::Strategies;
+use command_input::{Input, InputFault, Reason, Refusal, Status, unread};
 use made_jobs::{copy_line, made_line};
-use refusals::{Reason, Refusal};
 use std::alloc::Global;
 use swap_io::{Sink, Source, write_all};
 use swap_job::{Job, Purpose};
 use swap_offer::Prepared;
+use swap_run::Strategies;
 
 /// Puts the lines ahead behind a text, each with a line feed.
 fn copy_lines<S: Source>(

@@ -22,17 +22,16 @@ ghost use Rattle.swap_commands.specs.Strategies.{given_strategies};
 use crate::header::strategy_names;
 use crate::replay::new_world;
 use crate::walk::{Skip, Walker, walk};
-use command_input::{Input, InputFault, Status, unread};
-use deviators::Strategies;
+use command_input::{HeaderFault, Input, InputFault, Reason, Refusal, Status, nameless, unread};
 use many_lines::{Heading, ManyJob, find_places, next_many};
 use many_text::write_many;
 use party_wallet::Wallet;
-use refusals::{HeaderFault, Reason, Refusal, nameless};
 use std::alloc::Global;
 use swap_base::{ByteText, Fault, Listed, NoMemory, TryCopy};
 use swap_io::{Sink, Source, TextFault};
 use swap_job::{Finish, Purpose};
 use swap_many::{ManyEvent, ManyWorld, Overdrawn};
+use swap_run::Strategies;
 use swap_world::World;
 
 /// Several swaps, what is done after their last event, and their worlds after it.

@@ -13,10 +13,10 @@ use crate::many::many;
 use crate::run::run;
 use audit_command::audit_transcript;
 use command_input::{Input, Status};
-use deviators::Strategies;
 use program_words::Order;
 use std::alloc::Global;
 use swap_io::{Sink, Source};
+use swap_run::Strategies;
 
 /// Does what the order asks for with an input. `strategies` answers for each party that follows a
 /// strategy.

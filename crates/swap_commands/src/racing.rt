@@ -13,10 +13,8 @@ ghost use Rattle.swap_commands.specs.Strategies.{given_strategies};
 use crate::header::first_line;
 use crate::replay::skip_events;
 use crate::run::write_report_or_transcript;
-use command_input::{Input, InputFault, Status};
-use deviators::Strategies;
+use command_input::{Input, InputFault, Refusal, Status};
 use party_threads::{Gate, Hooks, race_fitting};
-use refusals::Refusal;
 use std::alloc::Global;
 use std::sync::Wait;
 use std::thread::Threads;
@@ -24,6 +22,7 @@ use swap_base::NoMemory;
 use swap_io::{Sink, Source};
 use swap_job::Purpose;
 use swap_offer::Prepared;
+use swap_run::Strategies;
 
 /// How a race is asked for: with `ticks` ticks a round. Its report is written, or its transcript.
 #[derive(Clone, Copy, Debug, PartialEq, Eq)]

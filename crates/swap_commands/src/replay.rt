@@ -19,15 +19,14 @@ ghost use Rattle.swap_commands.specs.Replay.{CanReplay, folded_events, skipped_e
 ghost use Rattle.swap_commands.specs.Walk.{ReadsOrStops};
 
 use crate::walk::{Skip, Walker, walk};
-use command_input::{Input, InputFault};
-use deviators::Strategies;
+use command_input::{Input, InputFault, OfferFault, Reason};
 use party_wallet::Wallet;
-use refusals::{OfferFault, Reason};
 use std::alloc::Global;
 use swap_base::NoMemory;
 use swap_io::Source;
 use swap_job::{Event, Job};
 use swap_offer::next_event;
+use swap_run::Strategies;
 use swap_world::World;
 
 /// A world steps by the events of its job's lines, where `strategies` answers for each party that

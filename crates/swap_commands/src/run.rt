@@ -35,19 +35,17 @@ ghost use Rattle.swap_commands.specs.Strategies.{given_strategies};
 use crate::finish::finish;
 use crate::header::first_line;
 use crate::replay::replay;
-use command_input::{Input, InputFault, Status, unread, written_status};
-use deviators::Strategies;
+use command_input::{Input, InputFault, Refusal, Status, unread, written_status};
 use ledger_core::Book;
 use outcome_rules::{Report, build_report};
-use refusals::Refusal;
-use report_text::write_report;
+use run_texts::{write_report, write_transcript};
 use std::alloc::Global;
 use swap_base::NoMemory;
 use swap_io::{Sink, Source, TextFault};
 use swap_job::{Finish, Job, Purpose};
 use swap_offer::Prepared;
+use swap_run::Strategies;
 use swap_world::World;
-use transcript_writer::write_transcript;
 
 /// The job of an input, and its world after all events.
 fn play<S: Source, A: Strategies>(

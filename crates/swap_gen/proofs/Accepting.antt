@@ -13,8 +13,8 @@ use Rattle.leader_check.specs.Distance.{leader_distance}
 use Rattle.leader_check.proofs.Far.{dist_is, dist_bounded, dist_by_rounds}
 use Rattle.hashkey_path.proofs.Feeding.{any_id}
 use Rattle.swap_rules.specs.Accepted.{IsAccepted, IsTimed}
-use Rattle.proposed_deal.proofs.Proposals.{is_accepted}
-use Rattle.proposed_deal.specs.Proposed.{HasModeLeaders, IsProposed}
+use Rattle.swap_offer.proofs.Proposals.{is_accepted}
+use Rattle.swap_offer.specs.Proposed.{HasModeLeaders, IsProposed}
 use Rattle.swap_gen.specs.Made.{seed_hashlock, seed_keys, all_keys, arc_timelock, all_timelocks, seed_filled_deal, made_deal}
 
 -- The one leader of a deal with timelocks.

@@ -10,7 +10,7 @@ use Rattle.swap_job.specs.declared.job.Job.{Job}
 use Rattle.party_wallet.specs.Value.{WalletState}
 use Rattle.party_wallet.specs.Keys.{new_wallet}
 use Rattle.party_wallet.specs.Wallets.{job_wallet}
-use Rattle.proposed_deal.specs.Proposed.{IsProposed}
+use Rattle.swap_offer.specs.Proposed.{IsProposed}
 use Rattle.swap_gen.specs.Made.{all_keys, made, made_deal, seed_or_zeros}
 use Rattle.swap_gen.specs.Owned.{inside_wallets}
 use Rattle.swap_gen.specs.Drawn.{generated, plain_deal, plain_job}

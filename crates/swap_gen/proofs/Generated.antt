@@ -6,7 +6,7 @@ use Rattle.swap_digraph.specs.Value.{Graph}
 use Rattle.swap_job.specs.Step.{IsJobEvent}
 use Rattle.swap_job.specs.declared.job.Job.{Job}
 use Rattle.swap_rules.specs.Accepted.{IsAccepted}
-use Rattle.proposed_deal.specs.Proposed.{HaveSeeds, IsProposed}
+use Rattle.swap_offer.specs.Proposed.{HaveSeeds, IsProposed}
 use Rattle.swap_gen.specs.Made.{made_deal}
 use Rattle.swap_gen.specs.Owned.{OwnsKeys}
 use Rattle.swap_gen.specs.Drawn.{drawn_graph, plain_deal, plain_job, drawn_seed, generated}

@@ -16,7 +16,7 @@ use Rattle.hashkey_path.specs.Hashkey.{party_public_key}
 use Rattle.hashkey_path.proofs.Validity.{bytes_eq_self}
 use Rattle.party_wallet.specs.Fits.{has_key, opens_own, fits_lock, wrong_lock}
 use Rattle.swap_job.specs.declared.job.Job.{Job}
-use Rattle.proposed_deal.specs.Proposed.{HaveSeeds}
+use Rattle.swap_offer.specs.Proposed.{HaveSeeds}
 use Rattle.swap_gen.specs.Made.{seed_or_zeros, seed_hashlock, seed_keys, all_keys, made_deal, made}
 use Rattle.swap_gen.specs.Owned.{OwnsKeys}
 

@@ -9,7 +9,7 @@ use Rattle.swap_digraph.specs.declared.deal.Version.TheVariants.{One}
 use Rattle.swap_digraph.proofs.Faults.{has_ends}
 use Rattle.leader_check.specs.Levels.{greatest_level}
 use Rattle.leader_check.proofs.Heights.{greatest_level_is_height}
-use Rattle.proposed_deal.specs.Proposed.{IsProposed}
+use Rattle.swap_offer.specs.Proposed.{IsProposed}
 use Rattle.swap_gen.specs.Word.{word}
 use Rattle.swap_gen.specs.Drawn.{leader_count, drawn_arcs, drawn_graph, drawn_amount, plain_deal}
 use Rattle.swap_gen.proofs.Rings.{leaders_are_low, arcs_are_sound, arcs_have_ring}

@@ -3,7 +3,7 @@ use Rattle.std.specs.Prelude.{ℕ, List, [], ◌∷◌, codes, decimal}
 use Rattle.swap_base.specs.Text.{joined}
 use Rattle.swap_job.specs.declared.event.Event.{Event}
 use Rattle.swap_job.specs.declared.event.Event.TheVariants.{Tick, Look, Act, Call, Crash}
-use Rattle.refusals.specs.Words.{party_name}
+use Rattle.command_input.specs.Words.{party_name}
 
 -- the line of an event that can be drawn; a call and a crash can't, and have none
 unfoldable pub event_line : List (List ℕ) → Event → List ℕ

@@ -3,7 +3,7 @@
 ghost use Rattle.std.specs.Prelude.{◌≡◌, ◌++◌, OnOk, OnErr};
 ghost use Rattle.swap_gen.specs.Line.{event_line};
 
-use refusals::party_name;
+use command_input::party_name;
 use swap_base::{ByteText, NoMemory, Piece, put_whole};
 use swap_job::Event;
 

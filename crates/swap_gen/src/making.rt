@@ -7,7 +7,7 @@ ghost use Rattle.swap_digraph.specs.declared.deal.Mode.TheVariants.{Timelocks};
 ghost use Rattle.leader_check.specs.Distance.{leader_distance};
 ghost use Rattle.swap_rules.specs.Accepted.{IsAccepted};
 ghost use Rattle.swap_gen.specs.Made.{all_keys, all_timelocks, made, made_deal, arc_timelock};
-ghost use Rattle.proposed_deal.specs.Proposed.{HaveSeeds, IsProposed};
+ghost use Rattle.swap_offer.specs.Proposed.{HaveSeeds, IsProposed};
 ghost use Rattle.swap_gen.specs.Owned.{OwnsKeys};
 
 use crate::seeds::{all_keys, seed_hashlocks};

@@ -3,7 +3,7 @@ use Rattle.std.proofs.Common.{◌≡◌, ◌≤◌, ◌⊎◌, inl, inr, ℕ, Bo
 use Rattle.std.specs.Io.KnownBytes.{Keeps}
 use Rattle.swap_io.specs.Causes.{AppendsProperPrefix}
 use Rattle.swap_io.specs.Handed.{AppendsPrefix}
-use Rattle.refusals.specs.declared.reason.Reason.{Reason}
+use Rattle.command_input.specs.declared.reason.Reason.{Reason}
 use Rattle.swap_gen.proofs.Generated.{generated_is_accepted}
 use Rattle.program_words.specs.Words.{task_text}
 use Rattle.program_words.specs.declared.task.Order.{Order}

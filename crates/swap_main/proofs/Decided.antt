@@ -7,7 +7,7 @@ use Rattle.swap_digraph.specs.declared.deal.Deal.{Deal}
 use Rattle.ledger_core.specs.declared.entry.Call.{Call}
 use Rattle.ledger_core.specs.Book.{Histories}
 use Rattle.swap_job.specs.Resolved.{resolved}
-use Rattle.deviators.specs.Script.{next_call, moves_left}
+use Rattle.swap_run.specs.Script.{next_call, moves_left}
 use Rattle.swap_job.specs.declared.event.Event.{Event}
 use Rattle.swap_job.specs.declared.event.Event.TheVariants.{Tick, Look, Act, Call as Made, Crash}
 use Rattle.swap_job.specs.declared.job.Finish.{Finish}
@@ -16,7 +16,7 @@ use Rattle.swap_job.specs.declared.job.Job.{Job}
 use Rattle.swap_job.specs.declared.job.Purpose.TheVariants as purposes
 use Rattle.swap_job.specs.declared.job.Role.{Role}
 use Rattle.swap_job.specs.declared.job.Role.TheVariants.{Conforming, Manual, Script, Strategy}
-use Rattle.refusals.specs.declared.reason.Reason.{Reason}
+use Rattle.command_input.specs.declared.reason.Reason.{Reason}
 use Rattle.swap_rules.specs.Machine.{Begins}
 use Rattle.swap_rules.proofs.Prefixes.{begins_more, begins_refl}
 use Rattle.swap_run.specs.Asked.{Answers, StrategyRule, is_strategy, IsByRule}

@@ -5,7 +5,7 @@ use Rattle.std.specs.Io.KnownBytes.{Consumes, IsAtEnd}
 use Rattle.swap_job.specs.declared.job.Job.{Job}
 use Rattle.swap_job.specs.declared.job.Finish.TheVariants.{Fair}
 use Rattle.outcome_rules.specs.Promises.{AllAreConforming}
-use Rattle.refusals.specs.declared.reason.Reason.{Reason}
+use Rattle.command_input.specs.declared.reason.Reason.{Reason}
 use Rattle.command_input.specs.Written.{Written}
 use Rattle.command_input.specs.Lines.{collect_lines, filled_lines}
 use Rattle.swap_run.specs.Asked.{Answers}

@@ -8,7 +8,7 @@ use Rattle.swap_job.specs.declared.job.Finish.TheVariants.{Fair}
 use Rattle.swap_job.specs.declared.job.Purpose.TheVariants as purposes
 use Rattle.swap_rules.specs.declared.finding.Finding.{Finding}
 use Rattle.outcome_rules.specs.Promises.{AllAreConforming}
-use Rattle.refusals.specs.declared.reason.Reason.{Reason}
+use Rattle.command_input.specs.declared.reason.Reason.{Reason}
 use Rattle.swap_offer.specs.Job.{parse_job}
 use Rattle.command_input.specs.Written.{Written}
 use Rattle.swap_commands.specs.Words.{Command, OfJob, Audit, Clear, Many, Check, Run, Race, Make, words_command}

@@ -14,7 +14,7 @@ use Rattle.swap_job.specs.declared.job.Finish.TheVariants.{Stop, Fair}
 use Rattle.swap_job.specs.declared.job.Role.{Role}
 use Rattle.swap_job.specs.declared.job.Role.TheVariants.{Conforming, Manual, Script, Strategy}
 use Rattle.swap_job.specs.Resolved.{resolved}
-use Rattle.deviators.specs.Script.{next_call, moves_left}
+use Rattle.swap_run.specs.Script.{next_call, moves_left}
 use Rattle.swap_rules.specs.Due.{Action}
 use Rattle.swap_rules.specs.Machine.{Begins}
 use Rattle.swap_rules.proofs.Prefixes.{begins_more, begins_refl}

@@ -3,7 +3,7 @@ use Rattle.std.proofs.Common.{◌≡◌, ℕ, Bool, List, Result, Ok, Option, No
 use Rattle.swap_digraph.specs.declared.deal.Deal.{Deal}
 use Rattle.ledger_core.specs.declared.entry.Call.{Call}
 use Rattle.ledger_core.specs.Book.{Histories}
-use Rattle.refusals.specs.declared.refusal.Refusal.{Refusal}
+use Rattle.command_input.specs.declared.refusal.Refusal.{Refusal}
 use Rattle.command_input.specs.Written.{Written}
 use Rattle.swap_run.specs.Asked.{Answers, StrategyRule}
 use Rattle.swap_many.specs.Kept.{Kept}

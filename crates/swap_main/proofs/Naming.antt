@@ -3,7 +3,7 @@ use Rattle.std.proofs.Common.{◌≡◌, ℕ, List, ap}
 use Rattle.std.specs.List.{list_any}
 use Rattle.std.specs.Prelude.{IfOk, Result, Ok, Err}
 use Rattle.std.specs.Str.{bytes_eq}
-use Rattle.deviators.specs.Program.{program_names}
+use Rattle.swap_run.specs.Program.{program_names}
 use Rattle.swap_main.specs.KnownStrategies.{is_known}
 
 -- the names that are told are those that the program knows

@@ -3,7 +3,7 @@ use Rattle.std.specs.Prelude.{◌≡◌, ◌<◌, ◌≤◌, ◌+◌, ◌⊎◌,
 use Rattle.std.specs.Io.KnownBytes.{Keeps}
 use Rattle.swap_io.specs.Causes.{AppendsProperPrefix, ConsumesAtMost, ConsumesSome}
 use Rattle.swap_io.specs.Handed.{AppendsPrefix}
-use Rattle.refusals.specs.declared.reason.Reason.{Reason}
+use Rattle.command_input.specs.declared.reason.Reason.{Reason}
 use Rattle.command_input.specs.Written.{IsWrittenWhole, Written}
 use Rattle.swap_commands.specs.Words.{Command, words_command, words_request}
 use Rattle.program_words.specs.declared.task.Request.{Request}

@@ -3,7 +3,7 @@ use Rattle.std.specs.Prelude.{◌≡◌, ℕ, Bool, List, Option}
 use Rattle.swap_digraph.specs.declared.deal.Deal.{Deal}
 use Rattle.ledger_core.specs.declared.entry.Call.{Call}
 use Rattle.ledger_core.specs.Book.{Histories}
-use Rattle.deviators.specs.Program.{program_names}
+use Rattle.swap_run.specs.Program.{program_names}
 use Rattle.offer_header.specs.Names.{has_strategy}
 use Rattle.swap_world.specs.Gone.{MayGive}
 

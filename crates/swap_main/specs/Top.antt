@@ -3,7 +3,7 @@ use Rattle.std.specs.Prelude.{◌≡◌, ◌<◌, ◌≤◌, ◌*◌, ℕ, Bool,
 use Rattle.std.specs.Io.KnownBytes.{Appends, Consumes, IsAtEnd}
 use Rattle.swap_io.specs.Causes.{AppendsProperPrefix}
 use Rattle.swap_io.specs.Handed.{AppendsPrefix}
-use Rattle.refusals.specs.declared.reason.Reason.{Reason}
+use Rattle.command_input.specs.declared.reason.Reason.{Reason}
 use Rattle.swap_job.specs.declared.job.Job.{Job}
 use Rattle.swap_job.specs.declared.job.Purpose.TheVariants as purposes
 use Rattle.swap_job.specs.declared.job.Finish.TheVariants.{Fair}

@@ -1,7 +1,7 @@
 //! How the program ends: the number of its status, and what it tells on standard error.
 
 ghost use Rattle.std.specs.Prelude.{◌≡◌, ◌⊎◌, ℕ, List};
-ghost use Rattle.refusals.specs.declared.reason.Reason.{Reason};
+ghost use Rattle.command_input.specs.declared.reason.Reason.{Reason};
 ghost use Rattle.swap_main.specs.Exit.{IsExit};
 
 use command_input::{Exit, Status, Told, refusal_text};

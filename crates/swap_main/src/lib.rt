@@ -10,10 +10,9 @@ mod laws;
 mod program;
 mod top;
 
-pub use command_input::{Exit, Status, Told};
+pub use command_input::{Exit, Status, Told, refusal_line};
 pub use exit::ending;
 pub use laws::the_text_is_determined;
 pub use program::Program;
 pub use program_words::Order;
-pub use refusals::refusal_line;
 pub use top::{swap_plain, swap_top};

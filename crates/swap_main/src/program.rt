@@ -1,14 +1,14 @@
 //! The strategies of the program.
 
 ghost use Rattle.std.specs.Prelude.{◌≡◌, IfOk};
-ghost use Rattle.deviators.specs.Program.{program_names, program_rule};
+ghost use Rattle.swap_run.specs.Program.{program_names, program_rule};
 ghost use Rattle.swap_main.specs.KnownStrategies.{by_rule, is_known};
 
-use deviators::{Strategies, greedy_rule, replayer_rule, silent_rule, spoiler_rule};
 use ledger_core::{Book, Call};
 use std::alloc::Global;
 use swap_base::{ArcId, ByteText, Listed, NoMemory, PartyId};
 use swap_digraph::Deal;
+use swap_run::{Strategies, greedy_rule, replayer_rule, silent_rule, spoiler_rule};
 
 /// The names of the program's strategies.
 fn program_names(alloc: Global) -> Result<Listed<ByteText>, NoMemory>

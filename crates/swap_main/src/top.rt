@@ -10,7 +10,6 @@ ghost use Rattle.swap_commands.specs.Words.{AsksRace, OfJob, Race, words_request
 ghost use Rattle.swap_commands.specs.Strategies.{given_strategies};
 
 use command_input::{Status, unread};
-use deviators::Strategies;
 use party_threads::{Gate, Hooks};
 use program_words::{Task, read_task};
 use std::alloc::Global;
@@ -18,6 +17,7 @@ use std::sync::Wait;
 use std::thread::Threads;
 use swap_commands::{RaceOrder, enter, generate, race, run_order};
 use swap_io::{Sink, Source};
+use swap_run::Strategies;
 
 /// Reads the job of a race, and races it.
 fn perform_race<R: Threads + Wait + Sync, S: Source, K: Sink, G: Gate, A: Strategies + Sync>(

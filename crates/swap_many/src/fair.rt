@@ -13,9 +13,9 @@ ghost use Rattle.swap_many.specs.TouchingArcs.{AreAdjacentArcs, swap_adjacent_ar
 ghost use Rattle.swap_many.specs.Value.{HasManyGone, IsManyStopped, CanContinue, IsSwapParty, many_kept, world_setup, nth_world};
 
 use crate::worlds::Worlds;
-use deviators::Strategies;
 use swap_base::{ArcId, Listed, NoMemory, PartyId};
 use swap_job::Event;
+use swap_run::Strategies;
 use swap_world::most_acts;
 
 /// Lets a party of a swap look at each of these arcs, which are those that touch it.

@@ -23,12 +23,12 @@ use crate::many_reply::ManyReply;
 use crate::overdrawn::ManyFault;
 use crate::place::Place;
 use crate::worlds::Worlds;
-use deviators::Strategies;
 use ledger_core::Book;
 use std::alloc::Global;
 use std::marker::Model;
 use swap_base::{GhostList, Listed, NoMemory};
 use swap_digraph::Deal;
+use swap_run::Strategies;
 use swap_world::World;
 
 /// Swaps whose arcs stand on shared chains with shared accounts.

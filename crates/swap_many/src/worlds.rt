@@ -31,7 +31,6 @@ use crate::place::Place;
 use crate::quiet::{horizon_rounds, rounds_still};
 use crate::ticking::{has_stopped, tick_worlds};
 use crate::touching_arcs::arcs_by_swap;
-use deviators::Strategies;
 use escrow_core::Reply;
 use ledger_core::{Accounts, Book};
 use std::alloc::Global;
@@ -39,6 +38,7 @@ use std::marker::Model;
 use swap_base::{ArcId, GhostList, Listed, NoMemory, PartyId};
 use swap_digraph::Deal;
 use swap_job::Event;
+use swap_run::Strategies;
 use swap_world::{Told, World};
 use time_bounds::horizon;
 

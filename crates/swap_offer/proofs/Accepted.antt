@@ -24,11 +24,11 @@ use Rattle.leader_check.proofs.Heights as heights
 use Rattle.leader_check.specs.Distance.{leader_distance}
 use Rattle.leader_check.proofs.Far.{dist_is, dist_by_rounds}
 use Rattle.swap_rules.specs.Accepted.{IsAccepted, IsOfVersion, IsTimed, HasTimelock}
-use Rattle.proposed_deal.specs.Proposed.{HasModeLeaders, IsProposed}
-use Rattle.proposed_deal.proofs.Proposals as proposals
-use Rattle.refusals.specs.declared.reason.Reason.{Reason}
-use Rattle.refusals.specs.declared.reason.Reason.TheVariants.{BoundTooSmall, StartTooSoon, ManyLeaders, WrongTimelock}
-use Rattle.offer_fields.proofs.Chains.{went}
+use Rattle.swap_offer.specs.Proposed.{HasModeLeaders, IsProposed}
+use Rattle.swap_offer.proofs.Proposals as proposals
+use Rattle.command_input.specs.declared.reason.Reason.{Reason}
+use Rattle.command_input.specs.declared.reason.Reason.TheVariants.{BoundTooSmall, StartTooSoon, ManyLeaders, WrongTimelock}
+use Rattle.offer_moves.proofs.Chains.{went}
 use Rattle.offer_header.specs.Raw.{is_plain, IsVersionMode}
 use Rattle.offer_header.specs.declared.header.Header.{Header}
 use Rattle.offer_header.specs.Header.{IsHeaderInLimits}

@@ -28,10 +28,10 @@ use Rattle.leader_check.proofs.Heights as heights
 use Rattle.leader_check.specs.Distance.{leader_distance}
 use Rattle.leader_check.proofs.Far.{dist_is, dist_by_rounds, dist_one}
 use Rattle.swap_rules.specs.Accepted.{IsOfVersion, IsTimed}
-use Rattle.proposed_deal.specs.Proposed.{HasModeLeaders, IsProposed}
-use Rattle.proposed_deal.proofs.Proposals.{is_proposed}
-use Rattle.refusals.specs.declared.reason.Reason.TheVariants.{WrongTimelock}
-use Rattle.offer_fields.proofs.Chains.{went}
+use Rattle.swap_offer.specs.Proposed.{HasModeLeaders, IsProposed}
+use Rattle.swap_offer.proofs.Proposals.{is_proposed}
+use Rattle.command_input.specs.declared.reason.Reason.TheVariants.{WrongTimelock}
+use Rattle.offer_moves.proofs.Chains.{went}
 use Rattle.offer_header.specs.declared.header.Header.{Header}
 use Rattle.offer_header.specs.Header.{IsHeaderInLimits}
 use Rattle.offer_header.specs.Raw.{is_plain}

@@ -25,11 +25,11 @@ use Rattle.swap_job.specs.declared.job.Job.{Job}
 use Rattle.swap_job.specs.declared.job.Purpose.{Purpose}
 use Rattle.swap_job.specs.declared.job.Purpose.TheVariants.{Check, Run, Race, Make, Audit}
 use Rattle.party_wallet.specs.Fits.{wrong_lock}
-use Rattle.refusals.specs.declared.reason.Reason.{Reason}
-use Rattle.refusals.specs.declared.reason.Reason.TheVariants.{BoundTooSmall, StartTooSoon, ManyLeaders, WrongTimelock, NoSeed, WrongWallet}
-use Rattle.refusals.specs.declared.refusal.Refusal.{Refusal}
-use Rattle.refusals.specs.Refusal.{fault_with_names, named_result}
-use Rattle.refusals.proofs.Named.{named_err}
+use Rattle.command_input.specs.declared.reason.Reason.{Reason}
+use Rattle.command_input.specs.declared.reason.Reason.TheVariants.{BoundTooSmall, StartTooSoon, ManyLeaders, WrongTimelock, NoSeed, WrongWallet}
+use Rattle.command_input.specs.declared.refusal.Refusal.{Refusal}
+use Rattle.command_input.specs.Refusal.{fault_with_names, named_result}
+use Rattle.command_input.proofs.Named.{named_err}
 use Rattle.offer_header.specs.declared.header.Header.{Header}
 use Rattle.offer_header.specs.Header.{IsHeaderInLimits}
 use Rattle.offer_header.specs.Raw.{is_plain}

@@ -7,8 +7,8 @@ use Rattle.swap_base.specs.declared.fault.Fault.{Fault}
 use Rattle.swap_base.specs.declared.fault.Fault.TheVariants.{Refused, NoMemory}
 use Rattle.swap_job.specs.declared.job.Job.{Job}
 use Rattle.swap_job.specs.declared.event.Event.{Event}
-use Rattle.refusals.specs.declared.reason.Reason.{Reason}
-use Rattle.offer_fields.proofs.Lists.{with_front}
+use Rattle.command_input.specs.declared.reason.Reason.{Reason}
+use Rattle.offer_moves.proofs.Lists.{with_front}
 use Rattle.swap_offer.specs.Job.{counted, parse_events, limited_event}
 
 -- a line as it stands in the text

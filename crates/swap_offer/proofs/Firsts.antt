@@ -5,7 +5,7 @@ use Rattle.swap_base.specs.Fault.{◌>>=◌, Fails}
 use Rattle.swap_base.specs.declared.fault.Fault.{Fault}
 use Rattle.swap_base.specs.declared.fault.Fault.TheVariants.{Refused, NoMemory}
 use Rattle.swap_base.specs.Lists.{or_else, first_given_answer}
-use Rattle.refusals.specs.declared.reason.Reason.{Reason}
+use Rattle.command_input.specs.declared.reason.Reason.{Reason}
 use Rattle.swap_offer.specs.Checks.{unless_wrong}
 
 either : (o rest : Option Reason) → unless_wrong (or_else o rest) ≡ unless_wrong o >>= λ _. unless_wrong rest

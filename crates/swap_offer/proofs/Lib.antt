@@ -1,3 +1,4 @@
+pub mod Proposals
 pub mod Accepted
 pub mod Admitted
 pub mod Certified

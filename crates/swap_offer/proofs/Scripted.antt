@@ -24,7 +24,7 @@ use Rattle.offer_moves.specs.declared.moves.Sizes.{Sizes}
 use Rattle.offer_moves.specs.Kept.{AreBoundedCrafters, AreSeeded, IsMadeMove}
 use Rattle.offer_moves.specs.Placed.{placed}
 use Rattle.offer_moves.proofs.Made.{placed_fits}
-use Rattle.offer_fields.proofs.Chains.{went}
+use Rattle.offer_moves.proofs.Chains.{went}
 use Rattle.offer_header.specs.Header.{IsHeaderInLimits}
 use Rattle.offer_header.specs.Scripts.{role_placed, roles_placed, scripts_placed, AreMade}
 use Rattle.offer_header.specs.declared.header.Header.{Header}

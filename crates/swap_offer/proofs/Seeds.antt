@@ -9,8 +9,8 @@ use Rattle.swap_base.proofs.Lists.{in_range, none_in, or-right}
 use Rattle.swap_job.specs.declared.job.Job.{Job}
 use Rattle.swap_job.specs.declared.job.Purpose.{Purpose}
 use Rattle.swap_job.specs.declared.job.Purpose.TheVariants.{Check, Run, Race, Make, Audit}
-use Rattle.refusals.specs.declared.reason.Reason.{Reason}
-use Rattle.refusals.specs.declared.reason.Reason.TheVariants.{NoSeed, WrongWallet}
+use Rattle.command_input.specs.declared.reason.Reason.{Reason}
+use Rattle.command_input.specs.declared.reason.Reason.TheVariants.{NoSeed, WrongWallet}
 use Rattle.party_wallet.specs.Fits.{wrong_lock}
 use Rattle.swap_offer.specs.Checks.{unless_wrong}
 use Rattle.swap_offer.specs.Wallets.{party_conforms, party_seed, is_crafter, needs_seed, no_seed, seeded, wrong_seed, wrong_wallet, fitting, fitting_wallets}

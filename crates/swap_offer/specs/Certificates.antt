@@ -4,9 +4,9 @@ use Rattle.swap_base.specs.declared.fault.Fault.{Fault}
 use Rattle.swap_base.specs.declared.fault.Fault.TheVariants.{Refused, NoMemory}
 use Rattle.digraph_check.specs.Closed.{IsClosedSet}
 use Rattle.leader_check.specs.Cycles.{IsFollowerCycle}
-use Rattle.refusals.specs.declared.reason.Reason.{Reason}
-use Rattle.refusals.specs.declared.reason.Reason.TheVariants.{NotStrong, NotFeedback}
-use Rattle.refusals.specs.declared.refusal.Refusal.{Refusal}
+use Rattle.command_input.specs.declared.reason.Reason.{Reason}
+use Rattle.command_input.specs.declared.reason.Reason.TheVariants.{NotStrong, NotFeedback}
+use Rattle.command_input.specs.declared.refusal.Refusal.{Refusal}
 use Rattle.offer_header.specs.declared.header.Header.{Header}
 use Rattle.swap_offer.specs.Checks.{header_digraph}
 

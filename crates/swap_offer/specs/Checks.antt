@@ -19,11 +19,11 @@ use Rattle.leader_check.specs.Cycles.{follower_cycle}
 use Rattle.leader_check.specs.Levels.{greatest_level}
 use Rattle.swap_job.specs.declared.job.Job.{Job}
 use Rattle.swap_job.specs.declared.job.Purpose.{Purpose}
-use Rattle.refusals.specs.declared.reason.Reason.{Reason}
-use Rattle.refusals.specs.declared.reason.Reason.TheVariants.{SelfArc, Parallel, NotStrong, ManyLeaders, NotFeedback, BoundTooSmall, StartTooSoon}
-use Rattle.refusals.specs.declared.reason.Reason.TheVariants.{WrongTimelock}
+use Rattle.command_input.specs.declared.reason.Reason.{Reason}
+use Rattle.command_input.specs.declared.reason.Reason.TheVariants.{SelfArc, Parallel, NotStrong, ManyLeaders, NotFeedback, BoundTooSmall, StartTooSoon}
+use Rattle.command_input.specs.declared.reason.Reason.TheVariants.{WrongTimelock}
 use Rattle.swap_rules.specs.Accepted.{IsAccepted}
-use Rattle.proposed_deal.specs.Proposed.{IsProposed}
+use Rattle.swap_offer.specs.Proposed.{IsProposed}
 use Rattle.offer_header.specs.Header.{IsHeaderInLimits}
 use Rattle.offer_header.specs.Raw.{is_plain}
 use Rattle.offer_header.specs.declared.header.Header.{Header}

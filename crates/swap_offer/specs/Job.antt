@@ -7,8 +7,8 @@ use Rattle.swap_job.specs.Step.{IsJobEvent}
 use Rattle.swap_job.specs.declared.job.Purpose.{Purpose}
 use Rattle.swap_job.specs.declared.job.Job.{Job}
 use Rattle.swap_job.specs.declared.event.Event.{Event}
-use Rattle.refusals.specs.declared.reason.Reason.{Reason}
-use Rattle.refusals.specs.declared.reason.Reason.TheVariants.{NotJson, OverLimit}
+use Rattle.command_input.specs.declared.reason.Reason.{Reason}
+use Rattle.command_input.specs.declared.reason.Reason.TheVariants.{NotJson, OverLimit}
 use Rattle.offer_header.specs.Raw.{is_plain}
 use Rattle.offer_header.specs.Header.{parse_whole_header}
 use Rattle.offer_header.specs.Limits.{HoldsEach}

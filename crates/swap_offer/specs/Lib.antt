@@ -1,3 +1,4 @@
+pub mod Proposed
 pub mod Checks
 pub mod Wallets
 pub mod Job

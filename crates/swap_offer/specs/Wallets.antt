@@ -12,10 +12,10 @@ use Rattle.swap_job.specs.declared.job.Role.{Role}
 use Rattle.swap_job.specs.declared.job.Purpose.{Purpose}
 use Rattle.swap_job.specs.declared.job.Purpose.TheVariants.{Run, Race, Make, Audit}
 use Rattle.swap_job.specs.declared.job.Finish.TheVariants.{Stop}
-use Rattle.proposed_deal.specs.Proposed.{HaveSeeds}
+use Rattle.swap_offer.specs.Proposed.{HaveSeeds}
 use Rattle.offer_header.specs.Header.{simple_role}
-use Rattle.refusals.specs.declared.reason.Reason.{Reason}
-use Rattle.refusals.specs.declared.reason.Reason.TheVariants.{NoSeed, WrongWallet}
+use Rattle.command_input.specs.declared.reason.Reason.{Reason}
+use Rattle.command_input.specs.declared.reason.Reason.TheVariants.{NoSeed, WrongWallet}
 use Rattle.party_wallet.specs.Fits.{wrong_lock}
 use Rattle.party_wallet.specs.Value.{WalletState}
 use Rattle.party_wallet.specs.Wallets.{new_wallets}

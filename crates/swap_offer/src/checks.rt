@@ -11,10 +11,10 @@ ghost use Rattle.offer_header.specs.Raw.{is_plain};
 ghost use Rattle.swap_offer.specs.Checks.{arc_reason, build_graph, connected, one_leader, led, least_bound, bounded, start_after_delta, wrong_timelock, arcs_timed};
 ghost use Rattle.swap_offer.specs.Checks.{timed_unless, checked_digraph, IsHeaderGraph, IsLedGraph};
 
+use command_input::{OfferFault, Reason};
 use digraph_check::{Strength, strong};
 use leader_check::{LeaderAnswer, Levels, dist, levels};
 use offer_header::{Header, is_plain};
-use refusals::{OfferFault, Reason};
 use std::alloc::Global;
 use swap_base::{ArcId, Fault, PartyId, TryCopy};
 use swap_digraph::{ArcFault, Digraph, Mode};

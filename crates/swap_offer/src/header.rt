@@ -4,7 +4,7 @@ ghost use Rattle.std.specs.Prelude.{◌≡◌, ℕ, List, IfOk, Ok, OnOk, length
 ghost use Rattle.swap_base.specs.Fault.{Gives};
 ghost use Rattle.swap_digraph.specs.Deal.{IsWellSized};
 ghost use Rattle.swap_digraph.specs.Graph.{HasEnds};
-ghost use Rattle.refusals.specs.Refusal.{named_result};
+ghost use Rattle.command_input.specs.Refusal.{named_result};
 ghost use Rattle.offer_header.specs.declared.header.Header.{Header};
 ghost use Rattle.offer_header.specs.Header.{parse_whole_header, HasSimpleRoles, IsUntoldHeader, IsHeaderInLimits};
 ghost use Rattle.offer_header.specs.Limits.{HoldsEach};
@@ -18,10 +18,10 @@ ghost use Rattle.swap_offer.specs.Job.{accepted_entries, parse_header_job, heade
 use crate::checks::{check_header, header_graph};
 use crate::prepared::Prepared;
 use crate::wallets::{check_seeds, prepared_wallets};
+use command_input::{HeaderFault, OfferFault, with_names};
 use hashkey_path::deal_digest;
 use offer_header::{Header, parse_header};
 use party_wallet::Wallet;
-use refusals::{HeaderFault, OfferFault, with_names};
 use std::alloc::Global;
 use swap_base::{ByteText, Listed};
 use swap_digraph::{Deal, Digraph};
@@ -89,7 +89,7 @@ fn provide(alloc: Global, job: &Job) -> Result<Vec<Option<Wallet>>, OfferFault>
 
 /// The job of a header within its limits, with its wallets. A reason against it takes the header's
 /// names.
-#[tactic(auto, using(crate::proofs::Size::is_whole, crate::proofs::Size::is_sized, refusals::proofs::Named::fails), unfolding(crate::specs::Job::accepted_entries))]
+#[tactic(auto, using(crate::proofs::Size::is_whole, crate::proofs::Size::is_sized, command_input::proofs::Named::fails), unfolding(crate::specs::Job::accepted_entries))]
 fn accept(alloc: Global, line: u32, header: Header) -> Result<Prepared, HeaderFault>
     requires within { IsHeaderInLimits header }
     requires untold { IsUntoldHeader header.purpose header }
@@ -129,7 +129,7 @@ fn accept(alloc: Global, line: u32, header: Header) -> Result<Prepared, HeaderFa
 /// seed. For any other purpose there is none: for a check each wallet is let go once it was
 /// examined, and a plain job and a transcript have nothing to examine. A role names one of the
 /// strategies. A reason against a later line takes the names of the job.
-#[tactic(auto, using(refusals::proofs::Named::fails), unfolding(crate::specs::Job::parse_header_job, crate::specs::Job::header_names))]
+#[tactic(auto, using(command_input::proofs::Named::fails), unfolding(crate::specs::Job::parse_header_job, crate::specs::Job::header_names))]
 pub fn read_header(
     alloc: Global,
     line: u32,

@@ -4,7 +4,7 @@ ghost use Rattle.std.specs.Prelude.{true, ◌≡◌, ◌<◌, ◌≤◌, ◌^◌
 ghost use Rattle.swap_base.specs.Fault.{Gives, steps};
 ghost use Rattle.swap_job.specs.Step.{IsJobEvent};
 ghost use Rattle.offer_events.specs.Event.{needs_seeds};
-ghost use Rattle.refusals.specs.Refusal.{named_result};
+ghost use Rattle.command_input.specs.Refusal.{named_result};
 ghost use Rattle.offer_header.specs.Limits.{HoldsEach};
 ghost use Rattle.offer_header.specs.Names.{AreNames, has_strategy};
 ghost use Rattle.offer_header.specs.Raw.{is_plain};
@@ -14,10 +14,11 @@ ghost use Rattle.swap_offer.specs.Wallets.{AreSimpleRoles, HaveRequiredScripts, 
 
 use crate::header::read_header;
 use crate::prepared::Prepared;
-use command_input::filled_lines;
+use command_input::{
+    HeaderFault, OfferFault, Reason, filled_lines, nameless, over_limit, with_names,
+};
 use offer_events::read_event;
 use offer_header::is_plain;
-use refusals::{HeaderFault, OfferFault, Reason, nameless, over_limit, with_names};
 use std::alloc::Global;
 use swap_base::{ByteText, Fault};
 use swap_job::{Event, Job, Purpose};
@@ -112,7 +113,7 @@ struct Offer {
 }
 
 /// The job of a header line and the events of the further lines.
-#[tactic(auto, using(refusals::proofs::Named::fails))]
+#[tactic(auto, using(command_input::proofs::Named::fails))]
 fn read_source(
     alloc: Global,
     purpose: Purpose,

@@ -5,7 +5,7 @@ ghost use Rattle.std.specs.List.{list_any, range_with_len};
 ghost use Rattle.swap_base.specs.Lists.{first_given_answer};
 ghost use Rattle.swap_base.specs.Fault.{Gives};
 ghost use Rattle.swap_digraph.specs.Deal.{IsWellSized};
-ghost use Rattle.refusals.specs.declared.reason.Reason.TheVariants.{WrongWallet};
+ghost use Rattle.command_input.specs.declared.reason.Reason.TheVariants.{WrongWallet};
 ghost use Rattle.party_wallet.specs.Fits.{wrong_lock};
 ghost use Rattle.party_wallet.specs.Keys.{new_wallet};
 ghost use Rattle.party_wallet.specs.Wallets.{job_wallet, new_wallets};
@@ -13,8 +13,8 @@ ghost use Rattle.swap_offer.specs.Checks.{unless_wrong};
 ghost use Rattle.swap_offer.specs.Job.{IsWholeJob};
 ghost use Rattle.swap_offer.specs.Wallets.{crafts, role_crafts, is_crafter, needs_seed, no_seed, seeded, wrong_wallet, fitting, walleted, prepared_wallets};
 
+use command_input::{OfferFault, Reason};
 use party_wallet::Wallet;
-use refusals::{OfferFault, Reason};
 use std::alloc::Global;
 use swap_base::{Digest, Fault, PartyId};
 use swap_digraph::Deal;

@@ -2,8 +2,8 @@
 use Rattle.std.specs.Prelude.{◌≡◌, ◌≤◌, ◌<◌, ◌++◌, ℕ, Bool, true, false, List, drop, length, Result, Ok, Err}
 use Rattle.swap_rules.specs.Accepted.{IsAccepted}
 use Rattle.swap_job.specs.declared.job.Job.{Job}
-use Rattle.refusals.specs.declared.refusal.Refusal.{Refusal}
-use Rattle.transcript_reader.specs.Header.{parse_deal_header}
+use Rattle.command_input.specs.declared.refusal.Refusal.{Refusal}
+use Rattle.audit_command.specs.Header.{parse_deal_header}
 use Rattle.party_answer.specs.declared.given.Answer.{Answer}
 use Rattle.party_answer.specs.declared.reason.AnswerReason.{AnswerReason}
 use Rattle.party_answer.specs.Promised.{IsTextAnswer}

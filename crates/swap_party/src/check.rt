@@ -5,10 +5,10 @@ ghost use Rattle.party_main.specs.Words.{short_limit};
 ghost use Rattle.swap_party.specs.Said.{header_said, IsCheckSaid, IsNothing};
 
 use crate::said::{DONE, NO_MEMORY, Said, TOO_LONG, say, say_nothing, say_reason};
+use audit_command::parse_deal_header;
 use party_main::{PartyReason, SHORT_LIMIT};
 use std::alloc::Global;
 use swap_base::Fault;
-use transcript_reader::parse_deal_header;
 
 /// Reads an offer's header, as a transcript has it, and answers its deal's id, which is 32 bytes,
 /// or the first reason against it.

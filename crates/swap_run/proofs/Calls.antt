@@ -19,9 +19,9 @@ use Rattle.swap_job.specs.declared.event.Event.TheVariants.{Tick, Look, Act, Cal
 use Rattle.swap_job.specs.declared.job.Role.{Role}
 use Rattle.swap_job.specs.declared.job.Role.TheVariants.{Conforming, Manual, Script, Strategy}
 use Rattle.swap_job.specs.Resolved.{resolved}
-use Rattle.deviators.specs.Script.{next_call, moves_left}
-use Rattle.deviators.specs.View.{IsPartyAnswer, MayAnswer}
-use Rattle.deviators.proofs.Scripts.{may_resolve, left_fit}
+use Rattle.swap_run.specs.Script.{next_call, moves_left}
+use Rattle.swap_run.specs.View.{IsPartyAnswer, MayAnswer}
+use Rattle.swap_run.proofs.Scripts.{may_resolve, left_fit}
 use Rattle.swap_job.specs.Fitting.{IsPartyMove}
 use Rattle.swap_rules.specs.Due.{Action, due}
 use Rattle.swap_rules.specs.Machine.{IsSound, Begins}

@@ -21,11 +21,11 @@ use Rattle.swap_job.specs.declared.event.Event.{Event}
 use Rattle.swap_job.specs.declared.event.Event.TheVariants.{Tick, Look, Act, Call as Calls, Crash}
 use Rattle.swap_job.specs.Step.{CanStep, CanTick, CanCall}
 use Rattle.swap_job.specs.Resolved.{resolved}
-use Rattle.deviators.specs.Script.{next_call, moves_left}
-use Rattle.deviators.specs.View.{IsPartyAnswer, MayAnswer}
+use Rattle.swap_run.specs.Script.{next_call, moves_left}
+use Rattle.swap_run.specs.View.{IsPartyAnswer, MayAnswer}
 use Rattle.swap_job.specs.declared.job.Role.{Role}
 use Rattle.swap_job.specs.declared.job.Role.TheVariants.{Conforming, Manual, Script, Strategy}
-use Rattle.deviators.proofs.Scripts.{may_resolve, next_may, left_fit}
+use Rattle.swap_run.proofs.Scripts.{may_resolve, next_may, left_fit}
 use Rattle.swap_rules.specs.Due.{Action, due}
 use Rattle.ledger_core.proofs.History.{not-true}
 use Rattle.swap_rules.proofs.Prefixes.{begins_refl, same_or_not}

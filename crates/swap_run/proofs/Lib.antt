@@ -1,3 +1,7 @@
+pub mod Replays
+pub mod Naming
+pub mod Answering
+pub mod Scripts
 -- Lemmas, each file above those that it stands on.
 
 -- steps and runs

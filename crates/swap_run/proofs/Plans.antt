@@ -15,7 +15,7 @@ use Rattle.ledger_core.specs.Book.{Histories, history, IsLegalBook}
 use Rattle.swap_job.specs.declared.moves.Move.{Move}
 use Rattle.swap_job.specs.Crafted.{Seeds}
 use Rattle.swap_job.specs.Fitting.{IsPartyMove, is_near}
-use Rattle.deviators.specs.View.{IsView, IsPartyAnswer, MayAnswer}
+use Rattle.swap_run.specs.View.{IsView, IsPartyAnswer, MayAnswer}
 use Rattle.swap_rules.specs.Machine.{Begins}
 use Rattle.swap_rules.proofs.Growth.{Grows}
 use Rattle.swap_rules.proofs.Prefixes.{begins_refl, begins_more, same_or_not}

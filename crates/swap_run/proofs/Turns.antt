@@ -17,10 +17,10 @@ use Rattle.ledger_core.specs.Book.{Histories, history}
 use Rattle.swap_job.specs.declared.event.Event.TheVariants.{Look, Act}
 use Rattle.swap_job.specs.declared.job.Role.{Role}
 use Rattle.swap_job.specs.declared.job.Role.TheVariants.{Conforming, Manual, Script, Strategy}
-use Rattle.deviators.specs.Script.{next_call, moves_left}
+use Rattle.swap_run.specs.Script.{next_call, moves_left}
 use Rattle.swap_job.specs.Step.{CanLook}
-use Rattle.deviators.specs.View.{IsPartyAnswer, MayAnswer}
-use Rattle.deviators.proofs.Scripts.{left_fit}
+use Rattle.swap_run.specs.View.{IsPartyAnswer, MayAnswer}
+use Rattle.swap_run.proofs.Scripts.{left_fit}
 use Rattle.swap_rules.specs.Due.{Action}
 use Rattle.swap_rules.specs.Machine.{Begins}
 use Rattle.swap_rules.specs.Rounds.{IsNear}

@@ -1,3 +1,7 @@
+pub mod Program
+pub mod View
+pub mod Script
+pub mod Rules
 pub mod Run
 pub mod Laws
 pub mod Fair

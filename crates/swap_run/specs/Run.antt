@@ -21,7 +21,7 @@ use Rattle.swap_job.specs.declared.job.Role.TheVariants.{Conforming, Manual, Scr
 use Rattle.swap_job.specs.declared.moves.Move.{Move}
 use Rattle.swap_job.specs.Crafted.{Seeds}
 use Rattle.swap_job.specs.Resolved.{resolved}
-use Rattle.deviators.specs.Script.{next_call, moves_left}
+use Rattle.swap_run.specs.Script.{next_call, moves_left}
 use Rattle.swap_job.specs.Fitting.{is_near}
 use Rattle.swap_job.specs.Roles.{role_script}
 use Rattle.swap_rules.specs.Due.{Wallet, Action, due, first}

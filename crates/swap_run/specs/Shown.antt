@@ -4,7 +4,7 @@ use Rattle.std.specs.List.{All}
 use Rattle.swap_digraph.specs.declared.deal.Deal.{Deal}
 use Rattle.swap_job.specs.Crafted.{Seeds}
 use Rattle.swap_job.specs.Fitting.{IsPartyMove}
-use Rattle.deviators.specs.View.{IsView}
+use Rattle.swap_run.specs.View.{IsView}
 use Rattle.swap_run.specs.Run.{Plan}
 
 -- What the plan of party v knows is a view of it, and the moves that are left are its own.

@@ -1,16 +1,25 @@
 //! The run of a schedule, as a definition, and its laws: whatever the others do, every conforming
-//! party keeps its conduct. Each law is a function without a body; its contract is the law.
+//! party keeps its conduct. Each law is a function without a body; its contract is the law. And the
+//! parties that don't conform: what scripts and strategies do next, and the program's strategies
+//! under their names.
 //!
 //! Read `specs/Run.antt` first, then `specs/Laws.antt`; `specs/Fair.antt` has the fair finish of a
 //! run, and `specs/FairLaws.antt` its laws, `specs/Steps.antt` its steps in their order.
 //! `specs/Asked.antt` says what strategies are asked, and `specs/Called.antt` takes a step apart,
 //! for swaps whose ledgers stand on shared chains.
 //!
-//! A `Planner` holds the plan of a party that follows a script or a strategy. Read
-//! `specs/Shown.antt`: when a plan is what a party may be shown.
+//! `specs/View.antt` says what a script or a strategy is shown and what it may answer,
+//! `specs/Script.antt` and `specs/Rules.antt` what a script and the program's strategies do, and
+//! `specs/Program.antt` under which names. A `Planner` holds the plan of such a party;
+//! `specs/Shown.antt` says when a plan is what a party may be shown.
 #![tactic(auto)]
 
+mod kit;
 mod planner;
+mod replayed;
+mod rules;
+mod script;
+mod strategy;
 
 ghost use Rattle.swap_run.specs.Asked.{RunsAskInOrder, FinishesAskInOrder, RunsWithoutStrategies, FinishesWithoutStrategies, RulesDecideRuns};
 ghost use Rattle.swap_run.specs.Asked.{RulesDecideFinishes};
@@ -20,7 +29,11 @@ ghost use Rattle.swap_run.specs.FairLaws.{OthersRest, TurnsAreGood, RoundsAreGoo
 ghost use Rattle.swap_run.specs.Steps.{FinishIsSteps};
 ghost use Rattle.swap_run.specs.Laws.{StartIsGood, StepsAreGood, DueCallsCanBeMade, GoodIsKept, RunsAreKept, UnlocksAreSigned};
 
+pub use kit::{Kit, Strategies};
 pub use planner::Planner;
+pub use rules::{greedy_rule, replayer_rule, silent_rule, spoiler_rule};
+pub use script::Script;
+pub use strategy::{Rule, Strategy};
 
 /// What every state of a run keeps: the book is legal, and each conforming party knows some prefix
 /// of each ledger that holds all its own calls, which keep its rules. What it makes, the ledger

@@ -2,12 +2,13 @@
 
 ghost use Rattle.std.specs.Prelude.{◌≡◌, ◌<◌, ◌+◌, ◌++◌, true, length, IfOk, OnOk, OnErr};
 ghost use Rattle.ledger_core.specs.Book.{history};
-ghost use Rattle.deviators.specs.Script.{next_call, moves_left};
-ghost use Rattle.deviators.specs.View.{IsView, MayAnswer};
+ghost use Rattle.swap_run.specs.Script.{next_call, moves_left};
+ghost use Rattle.swap_run.specs.View.{IsView, MayAnswer};
 ghost use Rattle.swap_run.specs.Run.{no_histories, plan_with_ledger};
 ghost use Rattle.swap_run.specs.Shown.{IsShown};
 
-use deviators::{Script, Strategies};
+use crate::kit::Strategies;
+use crate::script::Script;
 use ledger_core::{Book, Call, EntryList};
 use std::alloc::Global;
 use std::marker::Model;

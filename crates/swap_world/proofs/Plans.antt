@@ -9,8 +9,8 @@ use Rattle.ledger_core.specs.declared.entry.Call.{Call}
 use Rattle.ledger_core.specs.declared.entry.Entry.{Entry}
 use Rattle.ledger_core.specs.Book.{history}
 use Rattle.swap_job.specs.Crafted.{Seeds}
-use Rattle.deviators.specs.Script.{next_call}
-use Rattle.deviators.specs.View.{MayAnswer}
+use Rattle.swap_run.specs.Script.{next_call}
+use Rattle.swap_run.specs.View.{MayAnswer}
 use Rattle.swap_job.specs.declared.moves.Move.{Move}
 use Rattle.swap_job.specs.declared.job.Role.{Role}
 use Rattle.swap_job.specs.declared.job.Role.TheVariants.{Conforming, Manual, Script, Strategy}

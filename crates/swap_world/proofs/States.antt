@@ -11,7 +11,7 @@ use Rattle.ledger_core.specs.declared.entry.Entry.{Entry}
 use Rattle.ledger_core.specs.Value.{LedgerState}
 use Rattle.ledger_core.specs.Book.{Histories, history}
 use Rattle.swap_job.specs.Resolved.{resolved}
-use Rattle.deviators.specs.View.{MayAnswer}
+use Rattle.swap_run.specs.View.{MayAnswer}
 use Rattle.swap_job.specs.declared.event.Event.TheVariants.{Look, Act, Call as Made, Crash}
 use Rattle.swap_job.specs.declared.job.Role.{Role}
 use Rattle.swap_job.specs.declared.job.Role.TheVariants as kinds

@@ -9,7 +9,7 @@ use Rattle.ledger_core.specs.Value.{LedgerState}
 use Rattle.ledger_core.specs.History.{fit}
 use Rattle.ledger_core.specs.CallSignatures.{presents_valid}
 use Rattle.ledger_core.specs.Book.{Histories, history}
-use Rattle.deviators.specs.Script.{moves_left}
+use Rattle.swap_run.specs.Script.{moves_left}
 use Rattle.swap_rules.specs.Due.{Action}
 use Rattle.ledger_core.specs.Ledger.{after_call}
 use Rattle.swap_run.specs.Run.{Plan, Question, plan_with_ledger, signed_through_call, after_tick}

@@ -14,10 +14,10 @@ ghost use Rattle.swap_world.specs.Stopped.{IsStopped};
 
 use crate::touching_arcs::arcs_by_party;
 use crate::world::World;
-use deviators::Strategies;
 use swap_base::{ArcId, Listed, NoMemory, PartyId};
 use swap_digraph::Deal;
 use swap_job::Event;
+use swap_run::Strategies;
 use time_bounds::horizon;
 
 /// Lets a party look at each of these arcs, which are those that touch it.

@@ -8,9 +8,9 @@ ghost use Rattle.swap_world.specs.Actors.{AreHeld};
 ghost use Rattle.swap_world.specs.Stopped.{IsAfterSome, IsStopped};
 
 use crate::world::World;
-use deviators::Strategies;
 use swap_base::NoMemory;
 use swap_job::Event;
+use swap_run::Strategies;
 
 /// Takes events in their order.
 pub(crate) fn run<A: Strategies>(

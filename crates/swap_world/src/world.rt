@@ -42,7 +42,6 @@ use crate::player::{Actor, Player};
 use crate::players::{WorldFault, new_players, wrong_wallet};
 use crate::turn::PartyMove;
 use crate::{chain_tick, fair, journals, many, quiet, turn};
-use deviators::Strategies;
 use ledger_core::{Accounts, Book, Call, EntryList, Ledger, share_deal};
 use party_wallet::Wallet;
 use std::alloc::Global;
@@ -50,7 +49,7 @@ use std::marker::Model;
 use swap_base::{ArcId, Digest, Fault, GhostList, Listed, NoMemory, PartyId, TryCopy};
 use swap_digraph::{Deal, copy_deal};
 use swap_job::{Event, Job, Move, Role};
-use swap_run::Planner;
+use swap_run::{Planner, Strategies};
 use wallet_journal::MemoryDisk;
 
 /// The ledgers of a job, and what acts for its parties.

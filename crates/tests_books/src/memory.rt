@@ -12,11 +12,10 @@ ghost use Rattle.swap_offer.specs.Wallets.{HaveScripts, HaveWallets};
 ghost use Rattle.swap_rules.specs.Accepted.{IsAccepted};
 
 use crate::jobs;
-use deviators::{Kit, Strategies};
 use ledger_core::Book;
 use outcome_rules::{build_report, findings, unfinished};
 use party_wallet::Wallet;
-use report_text::report_text;
+use run_texts::report_text;
 use std::alloc::Global;
 use std::process::Abort;
 use std::test::Fail;
@@ -24,6 +23,7 @@ use swap_digraph::Deal;
 use swap_gen::generate;
 use swap_job::{Event, Job, Purpose};
 use swap_offer::{Prepared, next_event, read_header};
+use swap_run::{Kit, Strategies};
 use swap_world::World;
 
 fn count_unfinished(alloc: Global, deal: &Deal, book: &Book) -> Result<usize, Fail>

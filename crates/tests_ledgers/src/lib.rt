@@ -1,9 +1,13 @@
-//! Tests of single ledgers, their entries and the indexes over them, and of what a party learns,
-//! most as tables.
+//! Tests of single ledgers, their entries and the indexes over them, of what a party learns, and of
+//! journals of hashkeys, most as tables.
 #![tactic(auto)]
 
 #[cfg(test)]
+mod disks;
+#[cfg(test)]
 mod entries;
+#[cfg(test)]
+mod faults;
 #[cfg(test)]
 mod index;
 #[cfg(test)]
@@ -14,3 +18,7 @@ mod ledgers;
 mod replies;
 #[cfg(test)]
 mod resumed;
+#[cfg(test)]
+mod rows;
+#[cfg(test)]
+mod shown;

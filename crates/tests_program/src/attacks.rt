@@ -1,12 +1,11 @@
 //! Attacks: what a run of each reports, and that a race reports the same.
 
 ghost use Rattle.std.specs.Prelude.{IfOk};
-ghost use Rattle.deviators.specs.View.{IsView, MayAnswer};
+ghost use Rattle.swap_run.specs.View.{IsView, MayAnswer};
 
 use crate::attackers::{Attacker, attack_rule};
 use crate::deals::edited;
 use crate::runs::{Open, answer, asks, raced, rule_kit};
-use deviators::{Kit, Rule};
 use ledger_core::{Book, Call};
 use std::alloc::Global;
 use std::sync::Wait;
@@ -14,6 +13,7 @@ use std::test::Fail;
 use std::thread::Threads;
 use swap_base::{ArcId, NoMemory, PartyId};
 use swap_digraph::Deal;
+use swap_run::{Kit, Rule};
 
 /// The line without the height that an entry's begins with.
 fn without_height(line: &str) -> &str {

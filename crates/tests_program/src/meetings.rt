@@ -1,11 +1,10 @@
 //! Turns that wait for each other: at the gate, and within what they do.
 
 ghost use Rattle.std.specs.Prelude.{IfOk};
-ghost use Rattle.deviators.specs.View.{IsView, MayAnswer};
+ghost use Rattle.swap_run.specs.View.{IsView, MayAnswer};
 
 use crate::deals::HASHKEYS;
 use crate::runs::{Open, raced, rule_kit};
-use deviators::{Kit, Rule};
 use ledger_core::{Book, Call};
 use party_threads::Gate;
 use std::alloc::Global;
@@ -16,6 +15,7 @@ use std::test::Fail;
 use std::thread::Threads;
 use swap_base::{ArcId, NoMemory, PartyId, Shared, TryCopy};
 use swap_digraph::Deal;
+use swap_run::{Kit, Rule};
 
 /// How often it is looked whether another has come.
 const TRIES: u64 = 1_000_000_000;

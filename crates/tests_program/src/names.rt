@@ -1,7 +1,7 @@
 //! What is told of parties by their names.
 
 use crate::runs::{asks, refusal_string};
-use refusals::Reason;
+use command_input::Reason;
 use std::alloc::Global;
 use std::test::Fail;
 use swap_base::{ByteText, Listed};

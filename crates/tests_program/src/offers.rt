@@ -1,7 +1,7 @@
 //! Whole offers, read at once.
 
 use crate::deals::TIMELOCKS;
-use refusals::Refusal;
+use command_input::Refusal;
 use std::alloc::Global;
 use std::test::Fail;
 use swap_base::Fault;

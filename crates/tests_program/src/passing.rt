@@ -1,11 +1,10 @@
 //! What passes the gate, round by round, and what strategies are asked there.
 
 ghost use Rattle.std.specs.Prelude.{IfOk};
-ghost use Rattle.deviators.specs.View.{IsView, MayAnswer};
+ghost use Rattle.swap_run.specs.View.{IsView, MayAnswer};
 
 use crate::deals::HASHKEYS;
 use crate::runs::{raced, rule_kit};
-use deviators::Rule;
 use ledger_core::{Book, Call};
 use party_threads::Gate;
 use std::alloc::Global;
@@ -16,6 +15,7 @@ use std::test::Fail;
 use std::thread::Threads;
 use swap_base::{ArcId, NoMemory, PartyId, Shared, TryCopy};
 use swap_digraph::Deal;
+use swap_run::Rule;
 
 /// The rounds of a race whose ledgers end at the height 71.
 const ROUNDS: u64 = 71;

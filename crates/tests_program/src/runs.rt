@@ -1,11 +1,10 @@
 //! Runs and races of the program in the process of the tests, with strategies and a gate of theirs.
 
 ghost use Rattle.std.specs.Prelude.{ℕ, IfOk};
-ghost use Rattle.deviators.specs.View.{IsView, MayAnswer};
+ghost use Rattle.swap_run.specs.View.{IsView, MayAnswer};
 
-use deviators::{Kit, Rule, Strategy};
+use command_input::Reason;
 use party_threads::{Gate, Hooks};
-use refusals::Reason;
 use std::alloc::Global;
 use std::sync::Wait;
 use std::test::Fail;
@@ -13,6 +12,7 @@ use std::thread::Threads;
 use swap_base::ByteText;
 use swap_io::{TextSink, VecSource};
 use swap_main::{Status, refusal_line, swap_top};
+use swap_run::{Kit, Rule, Strategy};
 
 /// The most bytes of one read.
 const PER_READ: usize = 512;

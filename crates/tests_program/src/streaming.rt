@@ -2,11 +2,10 @@
 //! for.
 
 ghost use Rattle.std.specs.Prelude.{IfOk, Some};
-ghost use Rattle.deviators.specs.View.{IsView, MayAnswer};
+ghost use Rattle.swap_run.specs.View.{IsView, MayAnswer};
 
 use crate::deals::{HASHKEYS, edited};
 use crate::runs::{collect_words, rule_kit};
-use deviators::{Kit, Rule};
 use ledger_core::{Book, Call};
 use std::alloc::Global;
 use std::sync::atomic::AtomicBool;
@@ -16,6 +15,7 @@ use swap_base::{ArcId, NoMemory, PartyId, Shared, TryCopy};
 use swap_digraph::Deal;
 use swap_io::{Failed, Source, TextSink, VecSource};
 use swap_main::{Status, swap_plain};
+use swap_run::{Kit, Rule};
 
 /// Up to which byte a source may be asked before the first event is over.
 const NEAR: usize = 65_536;

@@ -5,7 +5,7 @@ use Rattle.ledger_core.specs.declared.entry.Entry.{Entry}
 use Rattle.swap_rules.specs.Party.{pick_call}
 use Rattle.swap_auditor.specs.declared.replay.BadReply.{BadReply}
 use Rattle.swap_auditor.specs.Audit.{with_entry}
-use Rattle.transcript_lines.specs.declared.said.Misspelling.{Misspelling}
+use Rattle.transcript_book.specs.declared.said.Misspelling.{Misspelling}
 use Rattle.told_ledgers.specs.declared.kind.Kind.{Kind}
 use Rattle.told_ledgers.specs.declared.told_ledger.OwnUnlock.{OwnUnlock}
 use Rattle.told_ledgers.specs.declared.one_ledger.Heard.{Heard}

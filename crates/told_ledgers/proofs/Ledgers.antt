@@ -14,9 +14,9 @@ use Rattle.ledger_core.specs.declared.entry.Entry.{Entry}
 use Rattle.ledger_core.specs.History.{height, IsLegal}
 use Rattle.ledger_core.specs.Book.{history, IsLegalBook}
 use Rattle.ledger_core.specs.WellFormed.{IsFormedEntry, written_height}
-use Rattle.refusals.specs.declared.reason.Reason.{Reason}
-use Rattle.transcript_lines.specs.declared.said.Misspelling.{Misspelling}
-use Rattle.transcript_lines.specs.Between.{separated_parts}
+use Rattle.command_input.specs.declared.reason.Reason.{Reason}
+use Rattle.transcript_book.specs.declared.said.Misspelling.{Misspelling}
+use Rattle.transcript_book.specs.Between.{separated_parts}
 use Rattle.transcript_book.specs.Entries.{parse_entry, parse_next_entry}
 use Rattle.transcript_book.proofs.Placed.{entry_is}
 use Rattle.told_ledgers.specs.declared.told_ledger.ToldLedger.{ToldLedger}

@@ -12,10 +12,10 @@ use Rattle.ledger_core.specs.Ledger.{tick_entry}
 use Rattle.ledger_core.specs.WellFormed.{IsFormedTick, written_height}
 use Rattle.ledger_core.proofs.Bounds.{tick_room}
 use Rattle.swap_auditor.proofs.Replays.{entry_stands}
-use Rattle.transcript_lines.specs.declared.said.Said.{Said}
-use Rattle.transcript_lines.specs.declared.said.Misspelling.{Misspelling}
-use Rattle.transcript_lines.specs.Reading.{bounded_number, line_said}
-use Rattle.transcript_lines.proofs.Spelling.{tick_line_back}
+use Rattle.transcript_book.specs.declared.said.Said.{Said}
+use Rattle.transcript_book.specs.declared.said.Misspelling.{Misspelling}
+use Rattle.transcript_book.specs.Reading.{bounded_number, line_said}
+use Rattle.transcript_book.proofs.Spelling.{tick_line_back}
 use Rattle.transcript_book.specs.Entries.{parse_entry, said_entry}
 use Rattle.transcript_book.proofs.Exact.{below_is}
 use Rattle.transcript_book.proofs.Complete.{placed_back}

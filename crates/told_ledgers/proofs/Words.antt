@@ -1,7 +1,7 @@
 -- The words of a line, one after another.
 use Rattle.std.proofs.Common.{◌≡◌, ◌&&◌, ℕ, suc, Bool, false, List, [], ◌∷◌, drop, refl}
 use Rattle.std.specs.Prelude.{codes}
-use Rattle.transcript_lines.specs.Reading.{is_word}
+use Rattle.transcript_book.specs.Reading.{is_word}
 use Rattle.told_ledgers.specs.Words.{ends_accepted, nth_word}
 
 pub nth_next : (i : ℕ) (ws : List (List ℕ)) → nth_word i (drop 1 ws) ≡ nth_word (suc i) ws

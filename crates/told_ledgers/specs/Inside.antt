@@ -7,8 +7,8 @@ use Rattle.ledger_core.specs.declared.entry.Sender.TheVariants.{Clock}
 use Rattle.ledger_core.specs.declared.entry.What.TheVariants.{Tick}
 use Rattle.ledger_core.specs.History.{IsLegal, height, reply_to_tick}
 use Rattle.ledger_core.specs.Ledger.{tick_entry}
-use Rattle.transcript_lines.specs.Between.{spaced}
-use Rattle.transcript_lines.specs.Words.{entry_words}
+use Rattle.transcript_book.specs.Between.{spaced}
+use Rattle.transcript_book.specs.Words.{entry_words}
 use Rattle.told_ledgers.specs.declared.kind.Kind.{Kind}
 use Rattle.told_ledgers.specs.declared.told_ledger.ToldLedger.{ToldLedger}
 use Rattle.told_ledgers.specs.declared.one_ledger.Heard.{Heard}

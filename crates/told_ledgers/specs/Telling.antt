@@ -7,11 +7,11 @@ use Rattle.swap_base.specs.Fault.{◌>>=◌}
 use Rattle.swap_digraph.specs.declared.deal.Deal.{Deal}
 use Rattle.swap_digraph.specs.Deal.{touches}
 use Rattle.ledger_core.specs.Book.{Histories}
-use Rattle.refusals.specs.declared.reason.Reason.{Reason}
-use Rattle.refusals.specs.declared.reason.Reason.TheVariants.{BadLine, CutShort}
-use Rattle.transcript_lines.specs.declared.said.Misspelling.{Misspelling}
-use Rattle.transcript_lines.specs.Between.{separated_parts}
-use Rattle.transcript_lines.specs.Reading.{parse_first_field, misspelt, nothing_more, bounded_number, decimal_number}
+use Rattle.command_input.specs.declared.reason.Reason.{Reason}
+use Rattle.command_input.specs.declared.reason.Reason.TheVariants.{BadLine, CutShort}
+use Rattle.transcript_book.specs.declared.said.Misspelling.{Misspelling}
+use Rattle.transcript_book.specs.Between.{separated_parts}
+use Rattle.transcript_book.specs.Reading.{parse_first_field, misspelt, nothing_more, bounded_number, decimal_number}
 use Rattle.transcript_book.specs.Counts.{ledger_word}
 use Rattle.told_ledgers.specs.declared.told_ledger.ToldLedger.{ToldLedger}
 use Rattle.told_ledgers.specs.declared.one_ledger.Heard.{Heard}

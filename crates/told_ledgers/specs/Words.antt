@@ -1,6 +1,6 @@
 -- What a line of a ledger is, by its words alone.
 use Rattle.std.specs.Prelude.{◌&&◌, ◌||◌, not, ℕ, Bool, false, List, [], ◌∷◌, codes, decimal, slice_index_or, if◌then◌else◌}
-use Rattle.transcript_lines.specs.Reading.{is_word}
+use Rattle.transcript_book.specs.Reading.{is_word}
 use Rattle.told_ledgers.specs.declared.kind.Kind.{Kind}
 use Rattle.told_ledgers.specs.declared.kind.Kind.TheVariants.{Read, Noise, Publish, Accepted}
 

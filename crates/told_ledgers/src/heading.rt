@@ -2,7 +2,7 @@
 
 ghost use Rattle.std.specs.Prelude.{◌<◌, ◌≤◌, IfOk};
 ghost use Rattle.swap_base.specs.Fault.{Gives};
-ghost use Rattle.transcript_lines.specs.Reading.{parse_first_field};
+ghost use Rattle.transcript_book.specs.Reading.{parse_first_field};
 ghost use Rattle.transcript_book.specs.Taking.{Takes};
 ghost use Rattle.told_ledgers.specs.Telling.{arc_said, heading_said, heading_words};
 
@@ -32,7 +32,7 @@ fn arc_said(least: u64, arcs: u64, word: &[u8]) -> Result<ArcId, WordFault>
     }
 }
 
-#[tactic(auto, unfolding(transcript_lines::specs::Reading::parse_first_field))]
+#[tactic(auto, unfolding(transcript_book::specs::Reading::parse_first_field))]
 fn arc_field(least: u64, arcs: u64, fields: &mut Parts<'_>) -> Result<ArcId, WordFault>
     requires { arcs ≤ 128 }
     ensures exact { Takes (λ a. a) result fields.new (parse_first_field (arc_said least arcs) fields.old) }

@@ -1,7 +1,7 @@
 //! What a line of a ledger is, by its words alone.
 
 ghost use Rattle.std.specs.Prelude.{◌≡◌, [], ℕ, decimal, drop};
-ghost use Rattle.transcript_lines.specs.Between.{separated_parts};
+ghost use Rattle.transcript_book.specs.Between.{separated_parts};
 ghost use Rattle.told_ledgers.specs.Words.{ends_accepted, foreign_kind, line_kind, nth_word};
 
 use transcript_book::Parts;

@@ -20,8 +20,7 @@ use std::marker::Model;
 use swap_auditor::{Found, replay_entry};
 use swap_base::{ArcId, Fault, Listed, NoMemory, PartyId, Shared, TryCopy};
 use swap_digraph::Deal;
-use transcript_book::{Known, WordFault, parse_entry, read_bounded, with_known};
-use transcript_lines::Misspelling;
+use transcript_book::{Known, Misspelling, WordFault, parse_entry, read_bounded, with_known};
 
 /// A ledger that is read, as far as its lines were.
 #[derive(Drop)]

@@ -8,7 +8,7 @@ ghost use Rattle.told_ledgers.specs.Telling.{ledgers_told, line_told, unless_bad
 
 use crate::reader::LedgersReader;
 use crate::told_ledger::ToldLedger;
-use refusals::{OfferFault, Reason};
+use command_input::{OfferFault, Reason};
 use std::alloc::Global;
 use swap_base::{Fault, Listed, PartyId, Shared};
 use swap_digraph::Deal;

@@ -1,7 +1,7 @@
 -- A number is read digit by digit.
 use Rattle.std.proofs.Common.{◌≡◌, ◌&&◌, ◌+◌, ◌-◌, ◌*◌, ◌^◌, ℕ, nat_le, nat_lt, Bool, true, false, cond, List, [], ◌∷◌, Ok, refl}
 use Rattle.swap_base.specs.Fault.{◌>>=◌, steps}
-use Rattle.transcript_lines.specs.Reading.{misspelt, continue_reading}
+use Rattle.transcript_book.specs.Reading.{misspelt, continue_reading}
 use Rattle.transcript_book.specs.Taking.{append_digit}
 
 pub read_by_steps : (n : ℕ) (bs : List ℕ) → steps append_digit n bs ≡ continue_reading n bs

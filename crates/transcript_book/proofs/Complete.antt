@@ -20,13 +20,13 @@ use Rattle.ledger_core.specs.Ledger.{call_entry, tick_entry}
 use Rattle.ledger_core.specs.Book.{Histories}
 use Rattle.swap_job.specs.declared.job.Job.{Job}
 use Rattle.ledger_core.specs.WellFormed.{IsFormedContinuation, IsFormedWhat, IsFormedEntry, written_height}
-use Rattle.transcript_lines.specs.declared.said.Misspelling.{Misspelling}
-use Rattle.transcript_lines.specs.Lines.{IsStatable, IsStated, entry_line, ledger_lines, lines_from_arc}
-use Rattle.transcript_lines.specs.Reading.{parse_first_field, line_said, misspelt, bounded_number, decimal_number}
-use Rattle.transcript_lines.proofs.Numbers.{below_back, high_number, number_back}
-use Rattle.transcript_lines.proofs.SeparatedParts.{high_too, parts_between}
-use Rattle.transcript_lines.proofs.Spelling.{field_back}
-use Rattle.transcript_lines.proofs.Stories.{entry_says, inside_said}
+use Rattle.transcript_book.specs.declared.said.Misspelling.{Misspelling}
+use Rattle.transcript_book.specs.Lines.{IsStatable, IsStated, entry_line, ledger_lines, lines_from_arc}
+use Rattle.transcript_book.specs.Reading.{parse_first_field, line_said, misspelt, bounded_number, decimal_number}
+use Rattle.transcript_book.proofs.Numbers.{below_back, high_number, number_back}
+use Rattle.transcript_book.proofs.SeparatedParts.{high_too, parts_between}
+use Rattle.transcript_book.proofs.Spelling.{field_back}
+use Rattle.transcript_book.proofs.Stories.{entry_says, inside_said}
 use Rattle.transcript_book.specs.Counts.{parse_limited_count, just, ledger_word, words_count}
 use Rattle.transcript_book.specs.Entries.{parse_entry, parse_next_entry, placed_entry}
 use Rattle.transcript_book.specs.Stages.{BookSoFar, with_next_ledger, end_line_read, entry_read, with_next_entry, ledger_read, line_read}

@@ -5,11 +5,11 @@ use Rattle.escrow_core.specs.declared.reply.Reply.TheVariants.{Accepted}
 use Rattle.ledger_core.specs.declared.entry.Sender.TheVariants.{Party, Clock}
 use Rattle.ledger_core.specs.declared.entry.What.TheVariants.{Call as Made, Tick}
 use Rattle.hashkey_path.proofs.Validity.{bytes_eq-true}
-use Rattle.transcript_lines.specs.declared.said.Said.{Said}
-use Rattle.transcript_lines.specs.Between.{between, spaced, separated_parts}
-use Rattle.transcript_lines.specs.Words.{entry_words, call_words}
-use Rattle.transcript_lines.specs.Reading.{bounded_number, parse_first_field, parse_call, make_reply, equals, nothing_more, call_said, tick_said, words_said}
-use Rattle.transcript_lines.specs.Reading.{line_said}
+use Rattle.transcript_book.specs.declared.said.Said.{Said}
+use Rattle.transcript_book.specs.Between.{between, spaced, separated_parts}
+use Rattle.transcript_book.specs.Words.{entry_words, call_words}
+use Rattle.transcript_book.specs.Reading.{bounded_number, parse_first_field, parse_call, make_reply, equals, nothing_more, call_said, tick_said, words_said}
+use Rattle.transcript_book.specs.Reading.{line_said}
 use Rattle.transcript_book.specs.Spelling.{IsSpelling, OneSpelling}
 use Rattle.transcript_book.proofs.Exact.{IsExact, went, ok_is, if_ok, below_is, parts_whole}
 use Rattle.transcript_book.proofs.Fields.{field_is, byte_is, if_word, call_is, reply_is}

@@ -18,13 +18,13 @@ use Rattle.hash_signature.specs.Signature.{for_chains, signature_value, text_val
 use Rattle.hash_signature.proofs.Chains.{get_or-for_chains}
 use Rattle.hash_signature.proofs.Values.{joined-text_values}
 use Rattle.hashkey_path.proofs.Validity.{bytes_eq-true}
-use Rattle.transcript_lines.specs.declared.said.Misspelling.{Misspelling}
-use Rattle.transcript_lines.specs.Between.{between, longer_first, separated_parts}
+use Rattle.transcript_book.specs.declared.said.Misspelling.{Misspelling}
+use Rattle.transcript_book.specs.Between.{between, longer_first, separated_parts}
 use Rattle.typed_books.specs.Typed.{IsDigest, IsSignature}
-use Rattle.transcript_lines.specs.Words.{list_word, signature_word}
-use Rattle.transcript_lines.specs.Reading.{misspelt, continue_reading, decimal_number, bounded_number, is_lower_digit, decoded_word, lower_hex_bytes, lower_hex_digest}
-use Rattle.transcript_lines.specs.Reading.{parse_signature, parse_each_word}
-use Rattle.transcript_lines.specs.Reading.{listed_field}
+use Rattle.transcript_book.specs.Words.{list_word, signature_word}
+use Rattle.transcript_book.specs.Reading.{misspelt, continue_reading, decimal_number, bounded_number, is_lower_digit, decoded_word, lower_hex_bytes, lower_hex_digest}
+use Rattle.transcript_book.specs.Reading.{parse_signature, parse_each_word}
+use Rattle.transcript_book.specs.Reading.{listed_field}
 use Rattle.transcript_book.proofs.HexDigits.{digits_are}
 
 -- ---- steps of a reading

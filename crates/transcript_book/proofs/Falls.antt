@@ -3,7 +3,7 @@ use Rattle.std.proofs.Common.{◌≡◌, ◌==◌, ◌+◌, ◌-◌, ◌<◌, �
 use Rattle.std.proofs.Common.{refl, sym, ap, ◌∙◌, arith}
 use Rattle.std.proofs.lemmas.List.{drop-drop, length-drop, take_all}
 use Rattle.memchr.specs.Find.{NoneBefore, Nowhere, Passes, is_byte}
-use Rattle.transcript_lines.specs.Between.{separated_parts, longer_first}
+use Rattle.transcript_book.specs.Between.{separated_parts, longer_first}
 
 not_true : (t : Bool) → ¬ (t ≡ true) → t ≡ false
 not_true true h = absurd (h refl)

@@ -13,11 +13,11 @@ use Rattle.escrow_core.specs.declared.reply.Reply.TheVariants.{WrongSignature, T
 use Rattle.escrow_core.specs.declared.reply.Reply.TheVariants.{AlreadyPublished, NoFunds, SenderFull, ClockFull}
 use Rattle.ledger_core.specs.declared.entry.Call.{Call}
 use Rattle.ledger_core.specs.declared.entry.Call.TheVariants.{Publish, Unlock, Claim, Refund, Transfer}
-use Rattle.transcript_lines.specs.declared.said.Misspelling.{Misspelling}
+use Rattle.transcript_book.specs.declared.said.Misspelling.{Misspelling}
 use Rattle.typed_books.specs.Typed.{IsDigest, IsSignature, IsTypedCall, IsTypedReply}
-use Rattle.transcript_lines.specs.Words.{list_word, signature_word, call_words, reply_words}
-use Rattle.transcript_lines.specs.Reading.{decimal_number, bounded_number, lower_hex_digest, parse_signature, listed_field, is_word, parse_first_field, parse_locks}
-use Rattle.transcript_lines.specs.Reading.{parse_publish_fields, parse_unlock_fields, read_units, parse_named_call, parse_call, plain_reply, numbered_reply, make_reply}
+use Rattle.transcript_book.specs.Words.{list_word, signature_word, call_words, reply_words}
+use Rattle.transcript_book.specs.Reading.{decimal_number, bounded_number, lower_hex_digest, parse_signature, listed_field, is_word, parse_first_field, parse_locks}
+use Rattle.transcript_book.specs.Reading.{parse_publish_fields, parse_unlock_fields, read_units, parse_named_call, parse_call, plain_reply, numbered_reply, make_reply}
 use Rattle.transcript_book.specs.Spelling.{HasLocks}
 use Rattle.transcript_book.proofs.Exact.{IsExact, went, ok_is, number_is, below_is, digest_is, signature_is, list_is}
 

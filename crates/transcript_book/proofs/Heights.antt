@@ -15,9 +15,9 @@ use Rattle.ledger_core.specs.History.{height, fit}
 use Rattle.ledger_core.specs.Ledger.{call_entry, tick_entry}
 use Rattle.ledger_core.proofs.Bounds.{height-push}
 use Rattle.ledger_core.specs.WellFormed.{written_height}
-use Rattle.transcript_lines.specs.declared.said.Said.{Said}
-use Rattle.transcript_lines.specs.declared.said.Misspelling.{Misspelling}
-use Rattle.transcript_lines.specs.Reading.{line_said, misspelt}
+use Rattle.transcript_book.specs.declared.said.Said.{Said}
+use Rattle.transcript_book.specs.declared.said.Misspelling.{Misspelling}
+use Rattle.transcript_book.specs.Reading.{line_said, misspelt}
 use Rattle.transcript_book.specs.Entries.{parse_entry, said_entry, placed_entry}
 
 -- a height that is held, and then more

@@ -9,7 +9,7 @@ use Rattle.hex.specs.Hex.{value_at}
 use Rattle.hex.proofs.HexLemmas.{decode_pairs-ok, decode_sized-ok}
 use Rattle.hex.proofs.Pairs.{decode_sized-pairs}
 use Rattle.swap_base.proofs.Lists.{and_parts}
-use Rattle.transcript_lines.specs.Reading.{is_lower_digit}
+use Rattle.transcript_book.specs.Reading.{is_lower_digit}
 use Rattle.transcript_book.proofs.Lower.{below_103}
 
 went : {A B : Type 0} (r : Result A FromHexError) (f : A → Result B FromHexError) (y : B) → (r >>= f) ≡ Ok y → (x : A) × (r ≡ Ok x) × (f x ≡ Ok y)

@@ -22,7 +22,7 @@ use Rattle.ledger_core.specs.History.{height, is_clock_full, rows, IsLegal, IsLe
 use Rattle.ledger_core.specs.Book.{history}
 use Rattle.ledger_core.proofs.Bounds.{bounds, tick_room}
 use Rattle.ledger_core.specs.WellFormed.{written_height, IsFormedMoment, IsFormedWhat}
-use Rattle.transcript_lines.specs.Lines.{IsStatable, IsStatedWhat}
+use Rattle.transcript_book.specs.Lines.{IsStatable, IsStatedWhat}
 use Rattle.transcript_book.specs.Stated.{IsTyped, LegalIsStated}
 
 -- ---- no call is answered as the clock's are

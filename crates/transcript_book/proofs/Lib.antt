@@ -1,3 +1,8 @@
+pub mod SeparatedParts
+pub mod Numbers
+pub mod Hex
+pub mod Spelling
+pub mod Stories
 pub mod Heights
 pub mod HexDigits
 pub mod Exact

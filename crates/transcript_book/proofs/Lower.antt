@@ -6,7 +6,7 @@ use Rattle.std.proofs.lemmas.Bool.{leb-true, eqb-false}
 use Rattle.hex.specs.Hex.{decode_pairs, decode_sized, hex_digit_value}
 use Rattle.hex.specs.declared.error.FromHexError.TheVariants.{InvalidStringLength, OddLength}
 use Rattle.swap_base.proofs.Lists.{and_parts}
-use Rattle.transcript_lines.specs.Reading.{decoded_word, is_lower_digit, misspelt}
+use Rattle.transcript_book.specs.Reading.{decoded_word, is_lower_digit, misspelt}
 
 abbrev pub field_value : ℕ → ℕ
 field_value c = if nat_le c 57 then c - 48 else c - 87

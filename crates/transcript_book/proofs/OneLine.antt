@@ -13,13 +13,13 @@ use Rattle.ledger_core.specs.declared.entry.What.{What}
 use Rattle.ledger_core.specs.declared.entry.What.TheVariants.{Call as Made, Tick}
 use Rattle.ledger_core.specs.declared.entry.Entry.{Entry}
 use Rattle.ledger_core.specs.Book.{Histories}
-use Rattle.transcript_lines.specs.Between.{spaced}
+use Rattle.transcript_book.specs.Between.{spaced}
 use Rattle.typed_books.specs.Typed.{IsTypedReply, IsTypedSender, IsTypedWhat}
-use Rattle.transcript_lines.specs.Words.{call_words, entry_words, reply_words}
-use Rattle.transcript_lines.specs.Lines.{IsStatable, entry_line, lines_from_arc}
-use Rattle.transcript_lines.proofs.Numbers.{high_number}
-use Rattle.transcript_lines.proofs.SeparatedParts.{IsHigh, all_append, high_between, high_too}
-use Rattle.transcript_lines.proofs.Spelling.{high_call, high_reply}
+use Rattle.transcript_book.specs.Words.{call_words, entry_words, reply_words}
+use Rattle.transcript_book.specs.Lines.{IsStatable, entry_line, lines_from_arc}
+use Rattle.transcript_book.proofs.Numbers.{high_number}
+use Rattle.transcript_book.proofs.SeparatedParts.{IsHigh, all_append, high_between, high_too}
+use Rattle.transcript_book.proofs.Spelling.{high_call, high_reply}
 use Rattle.transcript_book.proofs.Sound.{AreFrom}
 
 -- no line feed stands in the line

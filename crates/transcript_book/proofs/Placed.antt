@@ -16,12 +16,12 @@ use Rattle.ledger_core.specs.declared.entry.Entry.{Entry}
 use Rattle.ledger_core.specs.History.{height, fit}
 use Rattle.ledger_core.specs.Ledger.{call_entry, tick_entry}
 use Rattle.ledger_core.specs.WellFormed.{IsFormedWhat, IsFormedEntry, written_height}
-use Rattle.transcript_lines.specs.declared.said.Said.{Said}
-use Rattle.transcript_lines.specs.Between.{between, separated_parts, spaced}
+use Rattle.transcript_book.specs.declared.said.Said.{Said}
+use Rattle.transcript_book.specs.Between.{between, separated_parts, spaced}
 use Rattle.typed_books.specs.Typed.{IsTypedReply, IsTypedSender, IsTypedWhat}
-use Rattle.transcript_lines.specs.Words.{entry_words}
-use Rattle.transcript_lines.specs.Lines.{IsStatable, IsStatedWhat, entry_line}
-use Rattle.transcript_lines.specs.Reading.{parse_first_field, is_word, line_said, misspelt, nothing_more, bounded_number, decimal_number}
+use Rattle.transcript_book.specs.Words.{entry_words}
+use Rattle.transcript_book.specs.Lines.{IsStatable, IsStatedWhat, entry_line}
+use Rattle.transcript_book.specs.Reading.{parse_first_field, is_word, line_said, misspelt, nothing_more, bounded_number, decimal_number}
 use Rattle.transcript_book.specs.Counts.{parse_limited_count, just, ledger_word, words_count}
 use Rattle.transcript_book.specs.Entries.{parse_entry, parse_next_entry, placed_entry}
 use Rattle.transcript_book.proofs.Heights.{held_again}

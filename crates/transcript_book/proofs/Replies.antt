@@ -1,7 +1,7 @@
 -- A reply with its number takes two fields.
 use Rattle.std.proofs.Common.{◌≡◌, ℕ, List, [], ◌∷◌, Result, Ok, refl, ap, ap₂, ◌∙◌}
-use Rattle.transcript_lines.specs.declared.said.Misspelling.{Misspelling}
-use Rattle.transcript_lines.specs.Reading.{first_field, nothing_more, numbered_reply, make_reply}
+use Rattle.transcript_book.specs.declared.said.Misspelling.{Misspelling}
+use Rattle.transcript_book.specs.Reading.{first_field, nothing_more, numbered_reply, make_reply}
 
 none_more : (ws : List (List ℕ)) (u : Unit {0}) → nothing_more ws ≡ Ok u → ws ≡ []
 none_more [] u e = refl

@@ -11,7 +11,7 @@ use Rattle.ledger_core.specs.declared.entry.Entry.{Entry}
 use Rattle.ledger_core.specs.Book.{Histories}
 use Rattle.swap_job.specs.declared.job.Job.{Job}
 use Rattle.ledger_core.specs.WellFormed.{IsFormedContinuation}
-use Rattle.transcript_lines.specs.Lines.{IsStatable, IsStated, entry_line, lines_from_arc}
+use Rattle.transcript_book.specs.Lines.{IsStatable, IsStated, entry_line, lines_from_arc}
 use Rattle.transcript_book.specs.Counts.{parse_limited_count}
 use Rattle.transcript_book.specs.declared.place.Place.TheVariants.{Ledger, Entries, Over}
 use Rattle.transcript_book.specs.Entries.{parse_next_entry}

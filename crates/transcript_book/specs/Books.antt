@@ -4,7 +4,7 @@ use Rattle.swap_base.specs.Fault.{steps}
 use Rattle.swap_digraph.specs.Deal.{IsWellSized}
 use Rattle.ledger_core.specs.Book.{Histories}
 use Rattle.swap_job.specs.declared.job.Job.{Job}
-use Rattle.transcript_lines.specs.Lines.{IsStated, lines_from_arc}
+use Rattle.transcript_book.specs.Lines.{IsStated, lines_from_arc}
 use Rattle.transcript_book.specs.declared.place.Place.TheVariants.{Over}
 use Rattle.transcript_book.specs.Stages.{BookSoFar, line_read, no_ledgers}
 

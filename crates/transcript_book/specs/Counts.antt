@@ -1,9 +1,9 @@
 -- The line before the entries of an arc.
 use Rattle.std.specs.Prelude.{◌==◌, ℕ, List, codes, Result, Ok, if◌then◌else◌}
 use Rattle.swap_base.specs.Fault.{◌>>=◌}
-use Rattle.transcript_lines.specs.declared.said.Misspelling.{Misspelling}
-use Rattle.transcript_lines.specs.Between.{separated_parts}
-use Rattle.transcript_lines.specs.Reading.{parse_first_field, is_word, misspelt, nothing_more, bounded_number, decimal_number}
+use Rattle.transcript_book.specs.declared.said.Misspelling.{Misspelling}
+use Rattle.transcript_book.specs.Between.{separated_parts}
+use Rattle.transcript_book.specs.Reading.{parse_first_field, is_word, misspelt, nothing_more, bounded_number, decimal_number}
 
 abbrev pub ledger_word : List ℕ → Result (Unit {0}) Misspelling
 ledger_word w = if is_word w (codes "ledger") then Ok tt else misspelt

@@ -1,6 +1,6 @@
 -- A text and how far it was read.
 use Rattle.std.specs.Prelude.{◌≤◌, ℕ, List, [], length, drop, if◌then◌else◌}
-use Rattle.transcript_lines.specs.Between.{separated_parts}
+use Rattle.transcript_book.specs.Between.{separated_parts}
 use Rattle.transcript_book.specs.declared.text_parts.Parts.TheInside.{Inside}
 
 -- the parts that are to come

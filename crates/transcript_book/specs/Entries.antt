@@ -12,9 +12,9 @@ use Rattle.ledger_core.specs.declared.entry.Entry.{Entry}
 use Rattle.ledger_core.specs.History.{height, fit}
 use Rattle.ledger_core.specs.Ledger.{call_entry, tick_entry}
 use Rattle.ledger_core.specs.WellFormed.{written_height}
-use Rattle.transcript_lines.specs.declared.said.Said.{Said}
-use Rattle.transcript_lines.specs.declared.said.Misspelling.{Misspelling}
-use Rattle.transcript_lines.specs.Reading.{line_said, misspelt}
+use Rattle.transcript_book.specs.declared.said.Said.{Said}
+use Rattle.transcript_book.specs.declared.said.Misspelling.{Misspelling}
+use Rattle.transcript_book.specs.Reading.{line_said, misspelt}
 
 -- the entry at a height of arc a, where it is a fitting call of one of the arc's parties or a tick
 -- by 1 to 1,000,000

@@ -1,3 +1,8 @@
+pub mod Between
+pub mod Words
+pub mod Lines
+pub mod Reading
+pub mod Laws
 pub mod Entries
 pub mod Stages
 pub mod Inside

@@ -7,12 +7,12 @@ use Rattle.ledger_core.specs.declared.entry.Sender.{Sender}
 use Rattle.ledger_core.specs.declared.entry.Sender.TheVariants.{Party, Clock}
 use Rattle.ledger_core.specs.declared.entry.What.{What}
 use Rattle.ledger_core.specs.declared.entry.What.TheVariants.{Call as Made, Tick}
-use Rattle.transcript_lines.specs.declared.said.Said.{Said}
-use Rattle.transcript_lines.specs.Between.{spaced}
+use Rattle.transcript_book.specs.declared.said.Said.{Said}
+use Rattle.transcript_book.specs.Between.{spaced}
 use Rattle.typed_books.specs.Typed.{IsTypedReply, IsTypedSender, IsTypedWhat}
-use Rattle.transcript_lines.specs.Words.{entry_words}
-use Rattle.transcript_lines.specs.Reading.{line_said}
-use Rattle.transcript_lines.specs.Lines.{IsStatedWhat}
+use Rattle.transcript_book.specs.Words.{entry_words}
+use Rattle.transcript_book.specs.Reading.{line_said}
+use Rattle.transcript_book.specs.Lines.{IsStatedWhat}
 
 -- a publish states as many locks as the deal has
 abbrev pub HasLocks : ℕ → Call → Type 0

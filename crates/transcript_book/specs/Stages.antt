@@ -6,8 +6,8 @@ use Rattle.swap_base.specs.declared.fault.Fault.{Fault}
 use Rattle.ledger_core.specs.declared.entry.Entry.{Entry}
 use Rattle.ledger_core.specs.Book.{Histories}
 use Rattle.swap_job.specs.declared.job.Job.{Job}
-use Rattle.transcript_lines.specs.declared.said.Misspelling.{Misspelling}
-use Rattle.transcript_lines.specs.Reading.{misspelt}
+use Rattle.transcript_book.specs.declared.said.Misspelling.{Misspelling}
+use Rattle.transcript_book.specs.Reading.{misspelt}
 use Rattle.transcript_book.specs.Counts.{parse_limited_count}
 use Rattle.transcript_book.specs.declared.place.Place.{Place}
 use Rattle.transcript_book.specs.declared.place.Place.TheVariants.{Ledger, Entries, Over}

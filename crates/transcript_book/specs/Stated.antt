@@ -4,7 +4,7 @@ use Rattle.swap_digraph.specs.declared.deal.Deal.{Deal}
 use Rattle.ledger_core.specs.declared.entry.Entry.{Entry}
 use Rattle.ledger_core.specs.Book.{Histories, history, IsLegalBook}
 use Rattle.typed_books.specs.Typed.{IsTypedReply, IsTypedSender, IsTypedWhat}
-use Rattle.transcript_lines.specs.Lines.{IsStated}
+use Rattle.transcript_book.specs.Lines.{IsStated}
 
 -- An entry of the program's own types.
 pub record IsTyped (e : Entry) : Type 0 where

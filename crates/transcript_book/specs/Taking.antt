@@ -2,8 +2,8 @@
 use Rattle.std.specs.Prelude.{◌≡◌, ◌&&◌, ◌+◌, ◌-◌, ◌*◌, ◌^◌, ℕ, nat_le, nat_lt, List, Result, Ok, Err, if◌then◌else◌}
 use Rattle.swap_base.specs.Fault.{Fails}
 use Rattle.swap_base.specs.declared.fault.Fault.{Fault}
-use Rattle.transcript_lines.specs.declared.said.Misspelling.{Misspelling}
-use Rattle.transcript_lines.specs.Reading.{misspelt}
+use Rattle.transcript_book.specs.declared.said.Misspelling.{Misspelling}
+use Rattle.transcript_book.specs.Reading.{misspelt}
 
 -- what is read of the first parts, and the parts that are then to come
 abbrev pub Takes : {X Y : Type 0} → (X → Y) → Result X (Fault Misspelling) → List (List ℕ) → Result (Y × List (List ℕ)) Misspelling → Type 0

@@ -1,7 +1,7 @@
 //! The call of an entry's line.
 
 ghost use Rattle.std.specs.Prelude.{◌≤◌};
-ghost use Rattle.transcript_lines.specs.Reading.{parse_named_call, parse_call, parse_unlock_fields, parse_locks, parse_publish_fields, read_units};
+ghost use Rattle.transcript_book.specs.Reading.{parse_named_call, parse_call, parse_unlock_fields, parse_locks, parse_publish_fields, read_units};
 ghost use Rattle.transcript_book.specs.Taking.{Takes};
 
 use crate::field::{
@@ -27,7 +27,7 @@ fn parse_locks(count: usize, fields: &mut Parts<'_>) -> Result<LockList, WordFau
     Ok(locks)
 }
 
-#[tactic(auto, unfolding(transcript_lines::specs::Reading::parse_publish_fields))]
+#[tactic(auto, unfolding(crate::specs::Reading::parse_publish_fields))]
 fn parse_publish_fields(
     alloc: Global,
     count: usize,
@@ -54,7 +54,7 @@ fn parse_publish_fields(
 }
 
 /// The unlock whose hashkey the next fields say.
-#[tactic(auto, unfolding(transcript_lines::specs::Reading::parse_unlock_fields))]
+#[tactic(auto, unfolding(crate::specs::Reading::parse_unlock_fields))]
 pub fn parse_unlock_fields(alloc: Global, fields: &mut Parts<'_>) -> Result<Call, WordFault>
     ensures { Takes (λ c. c) result fields.new (parse_unlock_fields fields.old) }
 {
@@ -71,7 +71,7 @@ pub fn parse_unlock_fields(alloc: Global, fields: &mut Parts<'_>) -> Result<Call
     Ok(Call::Unlock(Shared::new(alloc, key)?))
 }
 
-#[tactic(auto, unfolding(transcript_lines::specs::Reading::read_units))]
+#[tactic(auto, unfolding(crate::specs::Reading::read_units))]
 fn read_units(fields: &mut Parts<'_>) -> Result<Call, WordFault>
     ensures { Takes (λ c. c) result fields.new (read_units fields.old) }
 {
@@ -105,7 +105,7 @@ fn parse_named_call(
 }
 
 /// The call that the next fields say, in a deal with this number of locks.
-#[tactic(auto, unfolding(transcript_lines::specs::Reading::parse_call))]
+#[tactic(auto, unfolding(crate::specs::Reading::parse_call))]
 pub(crate) fn parse_call(
     alloc: Global,
     count: usize,

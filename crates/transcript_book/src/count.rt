@@ -1,7 +1,7 @@
 //! The line before the entries of an arc.
 
 ghost use Rattle.swap_base.specs.Fault.{Gives};
-ghost use Rattle.transcript_lines.specs.Reading.{parse_first_field, bounded_number};
+ghost use Rattle.transcript_book.specs.Reading.{parse_first_field, bounded_number};
 ghost use Rattle.transcript_book.specs.Counts.{parse_limited_count, just, ledger_word, words_count};
 ghost use Rattle.transcript_book.specs.Taking.{Takes};
 
@@ -21,7 +21,7 @@ fn ledger_word(word: &[u8]) -> Result<(), WordFault>
 }
 
 /// The word before the arc of a ledger.
-#[tactic(auto, unfolding(transcript_lines::specs::Reading::parse_first_field))]
+#[tactic(auto, unfolding(crate::specs::Reading::parse_first_field))]
 pub fn ledger_field(fields: &mut Parts<'_>) -> Result<(), WordFault>
     ensures { Takes (λ u. u) result fields.new (parse_first_field ledger_word fields.old) }
 {
@@ -35,7 +35,7 @@ fn just(number: u64, word: &[u8]) -> Result<(), WordFault>
     if n == number { Ok(()) } else { Err(misspelt()) }
 }
 
-#[tactic(auto, unfolding(transcript_lines::specs::Reading::parse_first_field))]
+#[tactic(auto, unfolding(crate::specs::Reading::parse_first_field))]
 fn arc_field(arc: ArcId, fields: &mut Parts<'_>) -> Result<(), WordFault>
     ensures { Takes (λ u. u) result fields.new (parse_first_field (just arc) fields.old) }
 {
@@ -48,7 +48,7 @@ fn parse_count(word: &[u8]) -> Result<u32, WordFault>
     Ok(read_bounded(20_065, word)? as u32)
 }
 
-#[tactic(auto, unfolding(transcript_lines::specs::Reading::parse_first_field))]
+#[tactic(auto, unfolding(crate::specs::Reading::parse_first_field))]
 fn count_field(fields: &mut Parts<'_>) -> Result<u32, WordFault>
     ensures { Takes (λ n. n) result fields.new (parse_first_field (bounded_number 20065) fields.old) }
 {

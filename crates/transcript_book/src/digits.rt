@@ -4,7 +4,7 @@ ghost use Rattle.std.specs.Prelude.{◌≡◌, ◌<◌, ◌*◌, ℕ, Ok, Some, 
 ghost use Rattle.std.specs.List.{list_all};
 ghost use Rattle.hex.specs.Hex.{decode_sized, hex_digit_value, pair_value};
 ghost use Rattle.swap_base.specs.Fault.{Gives};
-ghost use Rattle.transcript_lines.specs.Reading.{lower_hex_digest, is_lower_digit, parse_signature};
+ghost use Rattle.transcript_book.specs.Reading.{lower_hex_digest, is_lower_digit, parse_signature};
 
 use crate::number::{WordFault, misspelt};
 use hash_signature::{SIGNATURE_BYTES, Sig};

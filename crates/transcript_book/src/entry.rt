@@ -2,19 +2,19 @@
 
 ghost use Rattle.std.specs.Prelude.{◌≤◌};
 ghost use Rattle.swap_base.specs.Fault.{Gives};
-ghost use Rattle.transcript_lines.specs.Reading.{call_said, line_said, parse_said, tick_said, words_said};
+ghost use Rattle.transcript_book.specs.Reading.{call_said, line_said, parse_said, tick_said, words_said};
 
 use crate::call::parse_call;
 use crate::field::{byte_field, nothing_more, sign_field, small_field, word};
 use crate::number::{WordFault, misspelt};
 use crate::reply::make_reply;
+use crate::said::Said;
 use crate::text_parts::Parts;
 use escrow_core::Reply;
 use ledger_core::{Sender, What};
 use std::alloc::Global;
-use transcript_lines::Said;
 
-#[tactic(auto, unfolding(transcript_lines::specs::Reading::tick_said))]
+#[tactic(auto, unfolding(crate::specs::Reading::tick_said))]
 fn tick_said(fields: &mut Parts<'_>) -> Result<Said, WordFault>
     ensures { Gives (λ s. s) result (tick_said fields.old) }
 {
@@ -27,7 +27,7 @@ fn tick_said(fields: &mut Parts<'_>) -> Result<Said, WordFault>
     })
 }
 
-#[tactic(auto, unfolding(transcript_lines::specs::Reading::call_said))]
+#[tactic(auto, unfolding(crate::specs::Reading::call_said))]
 fn call_said(alloc: Global, locks: usize, fields: &mut Parts<'_>) -> Result<Said, WordFault>
     requires { locks ≤ 8 }
     ensures { Gives (λ s. s) result (call_said locks fields.old) }
@@ -61,7 +61,7 @@ fn parse_said(
     }
 }
 
-#[tactic(auto, unfolding(transcript_lines::specs::Reading::words_said))]
+#[tactic(auto, unfolding(crate::specs::Reading::words_said))]
 fn words_said(alloc: Global, locks: usize, fields: &mut Parts<'_>) -> Result<Said, WordFault>
     requires { locks ≤ 8 }
     ensures { Gives (λ s. s) result (words_said locks fields.old) }
@@ -71,7 +71,7 @@ fn words_said(alloc: Global, locks: usize, fields: &mut Parts<'_>) -> Result<Sai
 }
 
 /// What a line says in a deal with this number of locks, or that no writer writes it.
-#[tactic(auto, unfolding(transcript_lines::specs::Reading::line_said))]
+#[tactic(auto, unfolding(crate::specs::Reading::line_said))]
 pub fn read_entry(alloc: Global, locks: usize, line: &[u8]) -> Result<Said, WordFault>
     requires { locks ≤ 8 }
     ensures { Gives (λ s. s) result (line_said locks line.now) }

@@ -2,7 +2,7 @@
 
 ghost use Rattle.std.specs.Prelude.{◌<◌, ◌≤◌, ◌^◌, IfOk};
 ghost use Rattle.swap_base.specs.Fault.{Gives};
-ghost use Rattle.transcript_lines.specs.Reading.{lower_hex_digest, equals, parse_first_field, first_field, listed_field, nothing_more, bounded_number, decimal_number, parse_signature};
+ghost use Rattle.transcript_book.specs.Reading.{lower_hex_digest, equals, parse_first_field, first_field, listed_field, nothing_more, bounded_number, decimal_number, parse_signature};
 ghost use Rattle.transcript_book.specs.Taking.{Takes};
 
 use crate::digits::lower_hex_digest;
@@ -25,7 +25,7 @@ pub fn word<'a>(fields: &mut Parts<'a>) -> Result<&'a [u8], WordFault>
 }
 
 /// A number below 2^64.
-#[tactic(auto, unfolding(transcript_lines::specs::Reading::parse_first_field))]
+#[tactic(auto, unfolding(crate::specs::Reading::parse_first_field))]
 pub fn number_field(fields: &mut Parts<'_>) -> Result<u64, WordFault>
     ensures { Takes (λ n. n) result fields.new (parse_first_field decimal_number fields.old) }
 {
@@ -33,7 +33,7 @@ pub fn number_field(fields: &mut Parts<'_>) -> Result<u64, WordFault>
 }
 
 /// A number below 2^32.
-#[tactic(auto, unfolding(transcript_lines::specs::Reading::parse_first_field))]
+#[tactic(auto, unfolding(crate::specs::Reading::parse_first_field))]
 pub fn small_field(fields: &mut Parts<'_>) -> Result<u32, WordFault>
     ensures { Takes (λ n. n) result fields.new (parse_first_field (bounded_number (2 ^ 32)) fields.old) }
 {
@@ -41,7 +41,7 @@ pub fn small_field(fields: &mut Parts<'_>) -> Result<u32, WordFault>
 }
 
 /// A number below 256.
-#[tactic(auto, unfolding(transcript_lines::specs::Reading::parse_first_field))]
+#[tactic(auto, unfolding(crate::specs::Reading::parse_first_field))]
 pub fn byte_field(fields: &mut Parts<'_>) -> Result<u8, WordFault>
     ensures { Takes (λ n. n) result fields.new (parse_first_field (bounded_number 256) fields.old) }
 {
@@ -49,7 +49,7 @@ pub fn byte_field(fields: &mut Parts<'_>) -> Result<u8, WordFault>
 }
 
 /// A number below a limit that a byte can say.
-#[tactic(auto, unfolding(transcript_lines::specs::Reading::parse_first_field))]
+#[tactic(auto, unfolding(crate::specs::Reading::parse_first_field))]
 pub fn bounded_field(limit: usize, fields: &mut Parts<'_>) -> Result<u8, WordFault>
     requires { limit ≤ 256 }
     ensures exact { Takes (λ n. n) result fields.new (parse_first_field (bounded_number limit) fields.old) }
@@ -60,7 +60,7 @@ pub fn bounded_field(limit: usize, fields: &mut Parts<'_>) -> Result<u8, WordFau
 }
 
 /// A digest.
-#[tactic(auto, unfolding(transcript_lines::specs::Reading::parse_first_field))]
+#[tactic(auto, unfolding(crate::specs::Reading::parse_first_field))]
 pub fn digest_field(fields: &mut Parts<'_>) -> Result<Digest, WordFault>
     ensures { Takes (λ d. d) result fields.new (parse_first_field lower_hex_digest fields.old) }
 {
@@ -68,7 +68,7 @@ pub fn digest_field(fields: &mut Parts<'_>) -> Result<Digest, WordFault>
 }
 
 /// A path.
-#[tactic(auto, unfolding(transcript_lines::specs::Reading::parse_first_field))]
+#[tactic(auto, unfolding(crate::specs::Reading::parse_first_field))]
 pub fn path_field(alloc: Global, fields: &mut Parts<'_>) -> Result<PathList, WordFault>
     ensures { Takes (λ l. l) result fields.new (parse_first_field (listed_field (bounded_number 256)) fields.old) }
 {
@@ -76,7 +76,7 @@ pub fn path_field(alloc: Global, fields: &mut Parts<'_>) -> Result<PathList, Wor
 }
 
 /// Signatures, in one field.
-#[tactic(auto, unfolding(transcript_lines::specs::Reading::parse_first_field))]
+#[tactic(auto, unfolding(crate::specs::Reading::parse_first_field))]
 pub fn signatures_field(alloc: Global, fields: &mut Parts<'_>) -> Result<SigList, WordFault>
     ensures { Takes (λ l. l) result fields.new (parse_first_field (listed_field parse_signature) fields.old) }
 {
@@ -94,7 +94,7 @@ fn equals(word: &[u8]) -> Result<(), WordFault>
 }
 
 /// The sign between a call and its reply.
-#[tactic(auto, unfolding(transcript_lines::specs::Reading::parse_first_field))]
+#[tactic(auto, unfolding(crate::specs::Reading::parse_first_field))]
 pub(crate) fn sign_field(fields: &mut Parts<'_>) -> Result<(), WordFault>
     ensures { Takes (λ u. u) result fields.new (parse_first_field equals fields.old) }
 {

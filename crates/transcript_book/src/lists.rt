@@ -1,7 +1,7 @@
 //! Lists in one field.
 
 ghost use Rattle.swap_base.specs.Fault.{Gives};
-ghost use Rattle.transcript_lines.specs.Reading.{parse_each_word, listed_field, bounded_number, parse_signature};
+ghost use Rattle.transcript_book.specs.Reading.{parse_each_word, listed_field, bounded_number, parse_signature};
 
 use crate::digits::parse_signature;
 use crate::number::{WordFault, parse_byte};

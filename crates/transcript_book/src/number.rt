@@ -2,11 +2,11 @@
 
 ghost use Rattle.std.specs.Prelude.{◌≡◌, ◌<◌, ◌^◌, IfOk};
 ghost use Rattle.swap_base.specs.Fault.{Gives};
-ghost use Rattle.transcript_lines.specs.Reading.{decimal_number, bounded_number, continue_reading};
+ghost use Rattle.transcript_book.specs.Reading.{decimal_number, bounded_number, continue_reading};
 ghost use Rattle.transcript_book.specs.Taking.{append_digit};
 
+use crate::said::Misspelling;
 use swap_base::Fault;
-use transcript_lines::Misspelling;
 
 /// Why a field says nothing, or want of memory.
 pub type WordFault = Fault<Misspelling>;

@@ -1,7 +1,7 @@
 //! The reply of an entry's line.
 
 ghost use Rattle.swap_base.specs.Fault.{Gives};
-ghost use Rattle.transcript_lines.specs.Reading.{numbered_reply, plain_reply, make_reply};
+ghost use Rattle.transcript_book.specs.Reading.{numbered_reply, plain_reply, make_reply};
 
 use crate::field::{nothing_more, word};
 use crate::number::{WordFault, decimal_number, misspelt, parse_byte};

@@ -9,12 +9,12 @@ ghost use Rattle.transcript_book.specs.Entries.{parse_entry, said_entry, placed_
 
 use crate::entry::read_entry;
 use crate::number::{WordFault, misspelt};
+use crate::said::Said;
 use escrow_core::Reply;
 use ledger_core::{Call, Entry, Sender, What, fits, is_adjacent};
 use std::alloc::Global;
 use swap_base::{ArcId, PartyId};
 use swap_digraph::Deal;
-use transcript_lines::Said;
 
 fn place_call(
     deal: &Deal,

@@ -1,7 +1,7 @@
 //! The parts of a text, one after another.
 
 ghost use Rattle.std.specs.Prelude.{◌≡◌, ◌∷◌, [], MatchOption, drop};
-ghost use Rattle.transcript_lines.specs.Between.{separated_parts};
+ghost use Rattle.transcript_book.specs.Between.{separated_parts};
 
 use memchr::memchr;
 use std::marker::Model;

@@ -1,15 +1,76 @@
-//! What is promised to a wallet that asks before each of its calls and keeps nothing but hashkeys.
+//! What is promised to a wallet that asks before each of its calls and keeps nothing but hashkeys;
+//! and what it needs to be told of each ledger: all but noise, and of a useless arc the ticks
+//! alone.
 //!
 //! Read `specs/Life.antt` first, then `specs/Laws.antt`, then `specs/Answers.antt`: all that is
-//! answered at once.
+//! answered at once. `specs/WithoutNoise.antt` says what is told of a history, and
+//! `specs/BookLaws.antt` that it is enough; `specs/ToldLife.antt` and `specs/ToldLaws.antt` promise
+//! the same to a wallet that is told so, on ledgers without limits.
 #![tactic(auto)]
 
+ghost use Rattle.wallet_promise.specs.BookLaws.{WhatIsSaidIsDue, EnoughIsDue, EnoughIsUseful, EnoughIsPressing, EnoughRests, MergedSaysEnough};
+ghost use Rattle.wallet_promise.specs.BookLaws.{WhatIsSaidRests, TellingsSayTheSame, TicksMayBeMerged, NeededSaysEnough, UselessIsTicks, AllHoldsAsTold, AllOutcomesAreTold, NeededHoldsAsTold};
+ghost use Rattle.wallet_promise.specs.BookLaws.{LegalIsChain, TellingIsLegal, OthersAreFew, BalancesAreTold, MergedIsLegal, TellingIsShort, BookCanBeTold};
+ghost use Rattle.wallet_promise.specs.BookLaws.{ChainIsNeeded, NeededIsLegal, NeededIsShort, NeededCanBeTold};
 ghost use Rattle.wallet_promise.specs.Laws.{LifeConducts, LifeIsSafe, OneHashkey, AskedIsNotKept, KeptMayGo};
 ghost use Rattle.wallet_promise.specs.Laws.{NothingIsLost, AnswersMayGo, AnswersMayBeKept, ToldIsOnce, TwiceIsBroken};
 ghost use Rattle.wallet_promise.specs.Laws.{TwoKeysAreBroken, LifeLeavesRoom, PatienceLeavesRoom, AttentiveIsSafe, LedgersHoldKeys};
 ghost use Rattle.wallet_promise.specs.Laws.{WatchfulLifeIsSafe, MindfulIsSafe};
 ghost use Rattle.wallet_promise.specs.Laws.{LifeBegins, OthersContinue, AskingContinues, CallsLand};
 ghost use Rattle.wallet_promise.specs.Answers.{AllIsUseful, AllMayGo, AllMayBeKept, EachKeyIsAsked, NoneIsSentTwice, NothingIsLeftOut, RestIsNothing};
+ghost use Rattle.wallet_promise.specs.ToldLaws.{AnswersAreTold, BeginningsAreHeard, ToldLifeIsLife, ToldLifeIsToldLife, ToldLifeIsNeededLife};
+ghost use Rattle.wallet_promise.specs.ToldLaws.{NothingIsGiven, NothingIsCalledThere, ToldIsLegal, ToldLifeConducts, ToldLifeIsSafe, ToldAttentiveIsSafe};
+ghost use Rattle.wallet_promise.specs.ToldLaws.{ToldWatchfulIsSafe, ToldMindfulIsSafe};
+
+/// The same is due over books that say the same; a history says what is told of it, and ticks may
+/// be told as one.
+pub fn noise_is_nothing()
+    ensures due { WhatIsSaidIsDue }
+    ensures rests { WhatIsSaidRests }
+    ensures told { TellingsSayTheSame }
+    ensures ticks { TicksMayBeMerged }
+{}
+
+/// The same is due over books that say enough: an arc that enters the party, without a publish of
+/// the correct terms, may be told as its ticks alone.
+pub fn enough_is_told()
+    ensures due { EnoughIsDue }
+    ensures useful { EnoughIsUseful }
+    ensures presses { EnoughIsPressing }
+    ensures rests { EnoughRests }
+    ensures merged { MergedSaysEnough }
+    ensures needed { NeededSaysEnough }
+    ensures useless { UselessIsTicks }
+{}
+
+/// A party's conduct, lateness, forgeries and outcome are the same in a book and in what is told of
+/// it, or in what it needs of it.
+pub fn book_is_told()
+    ensures told { AllHoldsAsTold }
+    ensures outcomes { AllOutcomesAreTold }
+    ensures needed { NeededHoldsAsTold }
+{}
+
+/// What is told of a legal history is legal, with the replies as they stood. The same holds of a
+/// chain without limits and with any noise.
+pub fn telling_is_legal()
+    ensures chain { LegalIsChain }
+    ensures legal { TellingIsLegal }
+    ensures few { OthersAreFew }
+    ensures balances { BalancesAreTold }
+    ensures merged { MergedIsLegal }
+    ensures short { TellingIsShort }
+    ensures book { BookCanBeTold }
+{}
+
+/// What a party needs of a history is legal and short, whatever stands in the contract of a useless
+/// arc.
+pub fn needed_is_legal()
+    ensures chain { ChainIsNeeded }
+    ensures legal { NeededIsLegal }
+    ensures short { NeededIsShort }
+    ensures book { NeededCanBeTold }
+{}
 
 /// In every legal book of an accepted deal, a wallet's life keeps its party's conduct. If the
 /// wallet was on time and the book has ended, the party is safe. A wallet is on time if it comes to
@@ -69,4 +130,28 @@ pub fn answers_are_whole()
     ensures asked { EachKeyIsAsked }
     ensures useful { AllIsUseful }
     ensures rest { RestIsNothing }
+{}
+
+/// What is answered goes by what is said: a wallet that leaves out noise, and all but the ticks of
+/// useless arcs, lives a life that is told all.
+pub fn answers_are_told()
+    ensures same { AnswersAreTold }
+    ensures heard { BeginningsAreHeard }
+    ensures whole { ToldLifeIsLife }
+    ensures told { ToldLifeIsToldLife }
+    ensures needed { ToldLifeIsNeededLife }
+    ensures given { NothingIsGiven }
+    ensures useless { NothingIsCalledThere }
+{}
+
+/// On a chain without limits, with any noise of others, and with anything in the contracts of
+/// useless arcs, a told life conducts its party. The party is safe where it was on time and the
+/// book has ended, and where it was watchful.
+pub fn told_life_conducts()
+    ensures legal { ToldIsLegal }
+    ensures conducts { ToldLifeConducts }
+    ensures safe { ToldLifeIsSafe }
+    ensures attentive { ToldAttentiveIsSafe }
+    ensures watchful { ToldWatchfulIsSafe }
+    ensures mindful { ToldMindfulIsSafe }
 {}

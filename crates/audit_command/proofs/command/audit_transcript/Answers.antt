@@ -3,7 +3,7 @@ use Rattle.std.proofs.KnownBytes.{Keeps-refl}
 use Rattle.command_input.specs.Input.{desk, fresh}
 use Rattle.command_input.proofs.Streams.{calm_unread}
 use Rattle.audit_command.specs.Reading.{IsStoryRefusal}
-use Rattle.transcript_reader.specs.Reading.{job_story}
+use Rattle.audit_command.specs.TranscriptReading.{job_story}
 use Rattle.audit_command.proofs.Ends.{all_consumed}
 use Rattle.audit_command.proofs.AuditEnds.{is_formed, says_refused, says_unread, says_written}
 use Rattle.audit_command.proofs.command.audit_transcript.Goals as goal

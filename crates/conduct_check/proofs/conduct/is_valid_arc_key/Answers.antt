@@ -1,6 +1,6 @@
 use Rattle.std.proofs.Common.{◌∙◌, sym, ap}
 use Rattle.swap_digraph.specs.Graph.{resolve_all_ends, entering}
-use Rattle.sent_keys.specs.Judged.{judged_book}
+use Rattle.conduct_check.specs.Judged.{judged_book}
 use Rattle.swap_rules.specs.Party.{first_key}
 use Rattle.conduct_check.specs.Standing.{is_valid_on_first_arc}
 use Rattle.conduct_check.proofs.Valid.{first_is_key, valid_into}

@@ -1,8 +1,8 @@
 use Rattle.std.proofs.Common.{sym, ap, take, option_copied, ◌∙◌}
 use Rattle.ledger_core.specs.declared.entry.Call.TheVariants.{Publish, Unlock}
 use Rattle.ledger_core.specs.Book.{history}
-use Rattle.sent_keys.specs.Judged.{judged_book}
-use Rattle.conduct_check.proofs.Made.{as_made}
+use Rattle.conduct_check.specs.Judged.{judged_book}
+use Rattle.conduct_check.proofs.MadeConduct.{as_made}
 use Rattle.conduct_check.proofs.conduct.keeps_entry.Goals as goal
 
 pub returns-in-Publish : goal.returns-in-Publish

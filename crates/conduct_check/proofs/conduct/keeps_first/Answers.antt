@@ -1,6 +1,6 @@
 use Rattle.std.proofs.Common.{◌∙◌, ap, sym, true}
 use Rattle.hashkey_path.specs.Hashkey.{is_valid}
-use Rattle.sent_keys.specs.Judged.{judged_book}
+use Rattle.conduct_check.specs.Judged.{judged_book}
 use Rattle.swap_digraph.specs.Deal.{lock_hashlock}
 use Rattle.swap_rules.specs.Party.{first_key}
 use Rattle.swap_rules.specs.Conduct.{has_origin}

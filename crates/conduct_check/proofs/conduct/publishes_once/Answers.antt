@@ -3,7 +3,7 @@ use Rattle.ledger_core.specs.Book.{history}
 use Rattle.history_index.specs.Indexes.{all_entries}
 use Rattle.swap_rules.specs.Party.{pick_call}
 use Rattle.swap_rules.specs.Conduct.{is_publish}
-use Rattle.conduct_check.proofs.Asked.{count_calls}
+use Rattle.conduct_check.proofs.AskedConduct.{count_calls}
 use Rattle.conduct_check.proofs.conduct.publishes_once.Goals as goal
 
 pub returns : goal.returns

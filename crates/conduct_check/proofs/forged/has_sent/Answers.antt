@@ -4,7 +4,7 @@ use Rattle.std.specs.Str.{bytes_eq}
 use Rattle.std.proofs.lemmas.Iterator.{YieldsList-from_slice}
 use Rattle.std.proofs.lemmas.Iterator.Search.{any_from_yields_List}
 use Rattle.hashkey_path.specs.declared.hashkey.Hashkey.{Hashkey}
-use Rattle.sent_keys.specs.Judged.{judged_book}
+use Rattle.conduct_check.specs.Judged.{judged_book}
 use Rattle.conduct_check.proofs.Forgery.{sent_secret}
 use Rattle.conduct_check.proofs.forged.has_sent.Goals as goal
 

@@ -1,6 +1,6 @@
 use Rattle.std.proofs.Common.{◌++◌, [], ◌∷◌, not, cond, sym, ap, ◌∙◌, arith, append-nil}
 use Rattle.ledger_core.specs.Book.{history}
-use Rattle.sent_keys.specs.Judged.{judged_book}
+use Rattle.conduct_check.specs.Judged.{judged_book}
 use Rattle.swap_rules.specs.declared.finding.Finding.TheVariants.{Broke}
 use Rattle.swap_rules.specs.Conduct.{keeps_entry}
 use Rattle.conduct_check.proofs.Failing.{said_more, said_done}

@@ -1,7 +1,7 @@
 use Rattle.std.proofs.Common.{◌≡◌, ◌++◌, take}
 use Rattle.std.specs.Prelude.{filter_map}
 use Rattle.ledger_core.specs.Book.{history}
-use Rattle.sent_keys.specs.Judged.{judged_book}
+use Rattle.conduct_check.specs.Judged.{judged_book}
 use Rattle.swap_rules.specs.declared.finding.Finding.TheVariants.{Broke}
 use Rattle.swap_rules.specs.Conduct.{keeps_entry}
 use Rattle.conduct_check.proofs.Failing.{said}

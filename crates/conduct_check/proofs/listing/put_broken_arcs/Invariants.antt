@@ -1,6 +1,6 @@
 use Rattle.std.proofs.Common.{◌≡◌, ◌++◌}
 use Rattle.std.specs.List.{flat_map, range_with_len}
-use Rattle.sent_keys.specs.Judged.{judged_book}
+use Rattle.conduct_check.specs.Judged.{judged_book}
 use Rattle.conduct_check.specs.CallConduct.{arc_broken_findings}
 use Rattle.conduct_check.proofs.listing.put_broken_arcs.Given as goal
 

@@ -1,6 +1,6 @@
 use Rattle.std.proofs.Common.{◌++◌, [], ◌∷◌, not, cond, sym, ap, ◌∙◌, arith}
 use Rattle.ledger_core.specs.Book.{history}
-use Rattle.sent_keys.specs.Judged.{judged_book}
+use Rattle.conduct_check.specs.Judged.{judged_book}
 use Rattle.swap_rules.specs.declared.finding.Finding.TheVariants.{Forged}
 use Rattle.swap_rules.specs.Forged.{is_forged}
 use Rattle.hashkey_path.proofs.Answered.{not-not}

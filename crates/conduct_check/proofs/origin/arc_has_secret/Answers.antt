@@ -4,7 +4,7 @@ use Rattle.ledger_core.specs.Book.{history}
 use Rattle.ledger_core.specs.History.{accepted}
 use Rattle.history_index.specs.Indexes.{all_entries}
 use Rattle.swap_rules.specs.Conduct.{carries}
-use Rattle.conduct_check.proofs.Asked.{any_accepted}
+use Rattle.conduct_check.proofs.AskedConduct.{any_accepted}
 use Rattle.conduct_check.proofs.origin.arc_has_secret.Goals as goal
 
 pub returns : goal.returns

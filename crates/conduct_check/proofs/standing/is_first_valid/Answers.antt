@@ -1,5 +1,5 @@
 use Rattle.std.proofs.Common.{ℕ, ◌<◌, length, sym, subst}
-use Rattle.sent_keys.specs.Judged.{judged_book}
+use Rattle.conduct_check.specs.Judged.{judged_book}
 use Rattle.conduct_check.proofs.Valid.{first_lock}
 use Rattle.conduct_check.proofs.standing.is_first_valid.Goals as goal
 

@@ -1,6 +1,6 @@
 use Rattle.std.proofs.Common.{arith}
 use Rattle.conduct_check.specs.Standing.{first_origin}
-use Rattle.conduct_check.proofs.Loops.{each_more}
+use Rattle.conduct_check.proofs.ConductLoops.{each_more}
 use Rattle.conduct_check.proofs.standing.key_origins.Goals as goal
 
 pub loop-lock-preserved : goal.loop-lock-preserved

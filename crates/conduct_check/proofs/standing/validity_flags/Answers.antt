@@ -1,6 +1,6 @@
 use Rattle.std.proofs.Common.{arith}
 use Rattle.conduct_check.specs.Standing.{first_valid}
-use Rattle.conduct_check.proofs.Loops.{each_more}
+use Rattle.conduct_check.proofs.ConductLoops.{each_more}
 use Rattle.conduct_check.proofs.standing.validity_flags.Goals as goal
 
 pub loop-lock-preserved : goal.loop-lock-preserved

@@ -1,7 +1,7 @@
 use Rattle.std.proofs.Common.{◌≡◌, ◌-◌, ◌<◌, true, List, length, sym, subst, ◌∙◌}
 use Rattle.hash_signature.specs.declared.sig.Sig.{Sig}
 use Rattle.hashkey_path.specs.LastSignatures.{is_last_signed}
-use Rattle.sent_keys.specs.Judged.{judged_book}
+use Rattle.conduct_check.specs.Judged.{judged_book}
 use Rattle.conduct_check.proofs.Valid.{known_opened, known_seen}
 use Rattle.conduct_check.proofs.validity.known_signatures.Goals as goal
 

@@ -1,5 +1,5 @@
 use Rattle.std.proofs.Common.{◌≡◌, length}
-use Rattle.transcript_lines.specs.Reading.{parse_each_word, bounded_number}
+use Rattle.transcript_book.specs.Reading.{parse_each_word, bounded_number}
 use Rattle.transcript_book.proofs.Members.{with_front}
 use Rattle.many_lines.specs.Below.{AreChainsBelow}
 use Rattle.many_lines.proofs.chain_list.read_chains.Given as goal

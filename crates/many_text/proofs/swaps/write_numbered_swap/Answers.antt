@@ -4,7 +4,7 @@ use Rattle.swap_io.specs.Handed.{Handed}
 use Rattle.swap_io.specs.declared.fault.TextFault.TheVariants.{NoMemory}
 use Rattle.swap_io.proofs.Handing.{handed_none, handed_on, handed_put, handed_was, hands_err, hands_ok, lost_then, lost_was, lost_with, rose_was}
 use Rattle.swap_many.specs.Value.{many_kept}
-use Rattle.report_text.specs.Report.{report}
+use Rattle.run_texts.specs.Report.{report}
 use Rattle.many_text.specs.ManyText.{kept_report, swap_book, swap_line}
 use Rattle.many_text.proofs.Handing.{of_swap}
 use Rattle.many_text.proofs.swaps.write_numbered_swap.Goals as goal

@@ -5,10 +5,10 @@ use Rattle.swap_io.specs.Handed.{Handed, Lost}
 use Rattle.swap_io.specs.declared.fault.TextFault.TheVariants.{NoMemory}
 use Rattle.swap_io.proofs.Handing.{handed_on, handed_put, handed_was, hands_err, hands_ok, lost_before, lost_then, lost_was, rose_was}
 use Rattle.swap_many.specs.Value.{many_kept}
-use Rattle.report_text.specs.Report.{count_line}
+use Rattle.run_texts.specs.Report.{count_line}
 use Rattle.many_text.specs.ManyText.{kept_chain_text, finding_count, kept_swap_text}
 use Rattle.many_text.proofs.Handing.{of_many}
-use Rattle.report_text.proofs.LedgerLines.{all_three}
+use Rattle.run_texts.proofs.LedgerLines.{all_three}
 use Rattle.many_text.proofs.text.hand_many.Goals as goal
 
 pub returns-in_err-count-clause-hands : goal.returns-in_err-count-clause-hands

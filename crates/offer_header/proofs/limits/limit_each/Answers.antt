@@ -1,5 +1,5 @@
 use Rattle.std.proofs.lemmas.Result.{err_from_is_err_and}
-use Rattle.offer_fields.proofs.Lists.{goes_on, ends, is_done}
+use Rattle.offer_moves.proofs.Lists.{goes_on, ends, is_done}
 use Rattle.offer_header.proofs.limits.limit_each.Goals as goal
 
 pub returns-in_err-limit : goal.returns-in_err-limit

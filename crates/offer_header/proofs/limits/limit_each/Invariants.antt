@@ -1,6 +1,6 @@
 use Rattle.std.proofs.Common.{◌≡◌, drop}
-use Rattle.offer_fields.specs.Lists.{collected_results}
-use Rattle.offer_fields.proofs.Lists.{with_front}
+use Rattle.offer_moves.specs.Lists.{collected_results}
+use Rattle.offer_moves.proofs.Lists.{with_front}
 use Rattle.offer_header.proofs.limits.limit_each.Given as goal
 
 abbrev pub invariant-loop-part : goal.invariant-loop-part

@@ -1,5 +1,5 @@
 use Rattle.std.proofs.lemmas.Result.{err_from_is_err_and}
-use Rattle.offer_fields.proofs.Lists.{starts, ends}
+use Rattle.offer_moves.proofs.Lists.{starts, ends}
 use Rattle.offer_moves.specs.Moves.{parse_move}
 use Rattle.offer_header.proofs.limits.parse_moves.Goals as goal
 

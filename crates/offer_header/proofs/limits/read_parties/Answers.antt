@@ -1,7 +1,7 @@
 use Rattle.std.proofs.Common.{length, arith}
 use Rattle.std.specs.Prelude.{codes}
 use Rattle.swap_digraph.specs.Deal.{most_parties}
-use Rattle.offer_fields.proofs.Ranges.{within_ok}
+use Rattle.offer_moves.proofs.Ranges.{within_ok}
 use Rattle.offer_header.proofs.Allowed.{few_parties}
 use Rattle.offer_header.proofs.limits.read_parties.Goals as goal
 

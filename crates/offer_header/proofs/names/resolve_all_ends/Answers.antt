@@ -1,6 +1,6 @@
 use Rattle.std.proofs.Common.{map}
 use Rattle.std.proofs.lemmas.Result.{err_from_is_err_and}
-use Rattle.offer_fields.proofs.Lists.{goes_on, ends, is_done}
+use Rattle.offer_moves.proofs.Lists.{goes_on, ends, is_done}
 use Rattle.offer_header.specs.Names.{named_ends}
 use Rattle.offer_header.proofs.names.resolve_all_ends.Goals as goal
 

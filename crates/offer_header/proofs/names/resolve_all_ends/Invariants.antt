@@ -1,7 +1,7 @@
 use Rattle.std.proofs.Common.{◌≡◌, map, drop}
-use Rattle.offer_fields.specs.Lists.{collected_results}
+use Rattle.offer_moves.specs.Lists.{collected_results}
 use Rattle.offer_header.specs.Names.{named_ends}
-use Rattle.offer_fields.proofs.Lists.{with_front}
+use Rattle.offer_moves.proofs.Lists.{with_front}
 use Rattle.offer_header.proofs.names.resolve_all_ends.Given as goal
 
 abbrev pub invariant-loop-arc : goal.invariant-loop-arc

@@ -1,6 +1,6 @@
 use Rattle.std.proofs.Common.{codes}
-use Rattle.offer_fields.proofs.Lists.{starts}
-use Rattle.offer_fields.specs.Limits.{to_digest}
+use Rattle.offer_moves.proofs.Lists.{starts}
+use Rattle.offer_moves.specs.FieldLimits.{to_digest}
 use Rattle.offer_moves.proofs.limits.list_digests.Goals as goal
 
 pub loop-text-init : goal.loop-text-init

@@ -1,7 +1,7 @@
 use Rattle.std.proofs.Common.{◌≡◌, codes, drop}
-use Rattle.offer_fields.specs.Lists.{collected_results}
-use Rattle.offer_fields.specs.Limits.{to_digest}
-use Rattle.offer_fields.proofs.Lists.{with_front}
+use Rattle.offer_moves.specs.Lists.{collected_results}
+use Rattle.offer_moves.specs.FieldLimits.{to_digest}
+use Rattle.offer_moves.proofs.Lists.{with_front}
 use Rattle.offer_moves.proofs.limits.list_digests.Given as goal
 
 abbrev pub invariant-loop-text : goal.invariant-loop-text

@@ -1,4 +1,4 @@
-use Rattle.offer_fields.proofs.Lists.{starts}
+use Rattle.offer_moves.proofs.Lists.{starts}
 use Rattle.offer_moves.specs.Limits.{parse_sig}
 use Rattle.offer_moves.proofs.limits.parse_sigs.Goals as goal
 

@@ -1,7 +1,7 @@
 use Rattle.std.proofs.Common.{◌≡◌, drop}
-use Rattle.offer_fields.specs.Lists.{collected_results}
+use Rattle.offer_moves.specs.Lists.{collected_results}
 use Rattle.offer_moves.specs.Limits.{parse_sig}
-use Rattle.offer_fields.proofs.Lists.{with_front}
+use Rattle.offer_moves.proofs.Lists.{with_front}
 use Rattle.offer_moves.proofs.limits.parse_sigs.Given as goal
 
 abbrev pub invariant-loop-text : goal.invariant-loop-text

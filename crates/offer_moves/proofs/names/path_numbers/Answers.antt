@@ -1,5 +1,5 @@
-use Rattle.offer_fields.specs.Names.{party_of_name}
-use Rattle.offer_fields.proofs.Lists.{starts}
+use Rattle.offer_moves.specs.Names.{party_of_name}
+use Rattle.offer_moves.proofs.Lists.{starts}
 use Rattle.offer_moves.proofs.names.path_numbers.Goals as goal
 
 pub loop-name-init : goal.loop-name-init

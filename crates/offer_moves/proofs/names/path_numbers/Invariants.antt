@@ -1,7 +1,7 @@
 use Rattle.std.proofs.Common.{◌≡◌, drop}
-use Rattle.offer_fields.specs.Lists.{collected_results}
-use Rattle.offer_fields.specs.Names.{party_of_name}
-use Rattle.offer_fields.proofs.Lists.{with_front}
+use Rattle.offer_moves.specs.Lists.{collected_results}
+use Rattle.offer_moves.specs.Names.{party_of_name}
+use Rattle.offer_moves.proofs.Lists.{with_front}
 use Rattle.offer_moves.proofs.names.path_numbers.Given as goal
 
 abbrev pub invariant-loop-name : goal.invariant-loop-name

@@ -2,7 +2,7 @@ use Rattle.std.proofs.Common.{false, slice_index_or, sym, ap, ◌∙◌, subst}
 use Rattle.std.specs.Prelude.{Result}
 use Rattle.std.specs.List.{list_any}
 use Rattle.swap_base.specs.Fault.{Gives}
-use Rattle.refusals.specs.declared.reason.Reason.{Reason}
+use Rattle.command_input.specs.declared.reason.Reason.{Reason}
 use Rattle.offer_moves.specs.Placed.{deviating, crafted_by_others}
 use Rattle.offer_moves.proofs.placed.check_crafters.Goals as goal
 

@@ -2,7 +2,7 @@ use Rattle.std.proofs.Common.{rules, [], if◌then◌else◌}
 use Rattle.swap_rules.specs.Findings.{party_findings}
 use Rattle.outcome_rules.specs.Report.{is_conforming_party}
 use Rattle.history_index.specs.Indexes.{all_entries}
-use Rattle.sent_keys.proofs.Loops.{flat_more}
+use Rattle.conduct_check.proofs.KeyLoops.{flat_more}
 use Rattle.outcome_rules.proofs.Promises as promises
 use Rattle.outcome_rules.proofs.listing.findings_indexed.Goals as goal
 

@@ -5,7 +5,7 @@ use Rattle.history_index.specs.Indexes.{all_entries}
 use Rattle.answer_rules.specs.Stopped.{useful_unless_stopped}
 use Rattle.party_wallet.specs.Value.{signed_hashkey}
 use Rattle.party_machine.specs.Wallet.{seed_wallet}
-use Rattle.party_due.specs.Actions.{actions, is_lock_stopped}
+use Rattle.party_answer.specs.Actions.{actions, is_lock_stopped}
 use Rattle.party_answer.specs.declared.timed.Timed.{Timed}
 use Rattle.party_answer.specs.Inside.{AreMeasured}
 use Rattle.party_answer.specs.Lines.{timed}

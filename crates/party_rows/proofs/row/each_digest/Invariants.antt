@@ -1,5 +1,5 @@
 use Rattle.std.proofs.Common.{◌≡◌, length}
-use Rattle.transcript_lines.specs.Reading.{lower_hex_digest, parse_each_word}
+use Rattle.transcript_book.specs.Reading.{lower_hex_digest, parse_each_word}
 use Rattle.transcript_book.proofs.Members.{with_front}
 use Rattle.party_rows.proofs.row.each_digest.Given as goal
 

@@ -1,6 +1,6 @@
 use Rattle.std.proofs.Common.{◌++◌, ◌∙◌, List, ap, codes, map, ℕ}
 use Rattle.hex.specs.Hex.{encode_lower}
-use Rattle.transcript_lines.specs.Words.{list_word}
+use Rattle.transcript_book.specs.Words.{list_word}
 use Rattle.party_rows.proofs.Fields.{row_text}
 use Rattle.party_rows.proofs.row_line.row_line.Goals as goal
 

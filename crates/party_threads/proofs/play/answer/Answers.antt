@@ -4,7 +4,7 @@ use Rattle.swap_job.specs.Fitting.{IsPartyMove}
 use Rattle.swap_job.specs.Roles.{job_role}
 use Rattle.swap_job.specs.declared.job.Role.{Role}
 use Rattle.swap_job.specs.declared.job.Role.TheVariants.{Manual}
-use Rattle.deviators.proofs.Scripts.{left_fit}
+use Rattle.swap_run.proofs.Scripts.{left_fit}
 use Rattle.swap_run.specs.Asked.{is_strategy}
 use Rattle.swap_run.specs.Run.{Plan}
 use Rattle.swap_world.proofs.Gone.{names_none}

@@ -1,6 +1,6 @@
 use Rattle.std.proofs.Common.{refl}
 use Rattle.std.proofs.lemmas.Result.{err_from_is_err_and}
-use Rattle.refusals.specs.declared.reason.Reason.TheVariants.{BadLine}
+use Rattle.command_input.specs.declared.reason.Reason.TheVariants.{BadLine}
 use Rattle.swap_commands.specs.Cleared.{IsFurther}
 use Rattle.command_input.specs.Input.{desk}
 use Rattle.command_input.specs.declared.fault.InputFault.TheVariants.{Refused}

@@ -2,8 +2,8 @@ use Rattle.std.proofs.Common.{◌≡◌, ◌∙◌, ℕ, Bool, List, Ok, ap, sub
 use Rattle.std.proofs.lemmas.Result.{err_from_is_err_and}
 use Rattle.offer_header.specs.Limits.{HoldsEach}
 use Rattle.offer_header.specs.Names.{has_strategy}
-use Rattle.refusals.proofs.Named.{named_ok}
-use Rattle.refusals.specs.Refusal.{named_result}
+use Rattle.command_input.proofs.Named.{named_ok}
+use Rattle.command_input.specs.Refusal.{named_result}
 use Rattle.swap_base.specs.Fault.{Fails}
 use Rattle.swap_offer.specs.Job.{parse_header_job, header_names}
 use Rattle.command_input.specs.Input.{desk}

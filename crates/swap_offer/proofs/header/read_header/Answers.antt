@@ -1,7 +1,7 @@
 use Rattle.std.proofs.Common.{◌≡◌, List, ℕ, Bool, Result, Ok, Err, sym, subst}
 use Rattle.std.specs.Prelude.{IfOk}
 use Rattle.swap_base.specs.declared.fault.Fault.{Fault}
-use Rattle.refusals.specs.declared.refusal.Refusal.{Refusal}
+use Rattle.command_input.specs.declared.refusal.Refusal.{Refusal}
 use Rattle.swap_job.specs.declared.job.Role.{Role}
 use Rattle.offer_header.specs.Header.{parse_whole_header}
 use Rattle.offer_header.specs.Limits.{HoldsEach}

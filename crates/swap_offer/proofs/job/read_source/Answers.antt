@@ -2,8 +2,8 @@ use Rattle.std.proofs.Common.{◌≡◌, ◌∷◌, map, Result, Ok, refl}
 use Rattle.swap_base.specs.Fault.{◌>>=◌, Fails}
 use Rattle.swap_base.specs.declared.fault.Fault.{Fault}
 use Rattle.swap_base.specs.declared.fault.Fault.TheVariants.{Refused, NoMemory}
-use Rattle.refusals.specs.declared.reason.Reason.{Reason}
-use Rattle.refusals.proofs.Named.{fails, named_ok}
+use Rattle.command_input.specs.declared.reason.Reason.{Reason}
+use Rattle.command_input.proofs.Named.{fails, named_ok}
 use Rattle.offer_header.specs.Names.{has_strategy}
 use Rattle.swap_offer.specs.Job.{parse_job_events, parse_header_job, header_names, job_of_lines}
 use Rattle.swap_offer.proofs.job.read_source.Goals as goal

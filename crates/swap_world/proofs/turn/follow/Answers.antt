@@ -2,7 +2,7 @@ use Rattle.std.proofs.Common.{◌≡◌, ℕ, Option, inr, sym, ap, ◌∙◌, s
 use Rattle.ledger_core.specs.declared.entry.Call.{Call}
 use Rattle.ledger_core.specs.Book.{history}
 use Rattle.swap_rules.specs.Machine.{Begins}
-use Rattle.deviators.specs.Script.{next_call}
+use Rattle.swap_run.specs.Script.{next_call}
 use Rattle.swap_run.specs.Run.{Plan}
 use Rattle.swap_world.specs.Acting.{histories, taken}
 use Rattle.swap_world.specs.On.{is_slot_swept}

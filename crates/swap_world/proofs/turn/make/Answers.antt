@@ -3,8 +3,8 @@ use Rattle.std.specs.Prelude.{IsTrue}
 use Rattle.ledger_core.specs.declared.entry.Call.{Call}
 use Rattle.ledger_core.specs.History.{fit}
 use Rattle.swap_job.specs.Resolved.{resolved}
-use Rattle.deviators.specs.View.{IsPartyAnswer}
-use Rattle.deviators.proofs.Scripts.{may_resolve}
+use Rattle.swap_run.specs.View.{IsPartyAnswer}
+use Rattle.swap_run.proofs.Scripts.{may_resolve}
 use Rattle.swap_world.specs.Acting.{histories, landed, taken}
 use Rattle.swap_world.specs.Inside.{IsArcLedger}
 use Rattle.swap_world.specs.On.{is_slot_swept}

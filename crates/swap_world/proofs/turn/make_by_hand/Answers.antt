@@ -1,7 +1,7 @@
 use Rattle.std.proofs.Common.{◌≡◌, ℕ, Option, inr, sym, ap, ◌∙◌}
 use Rattle.ledger_core.specs.declared.entry.Call.{Call}
 use Rattle.swap_job.specs.Resolved.{resolved}
-use Rattle.deviators.proofs.Scripts.{may_resolve}
+use Rattle.swap_run.proofs.Scripts.{may_resolve}
 use Rattle.swap_world.specs.Acting.{histories, taken}
 use Rattle.swap_world.specs.On.{is_slot_swept}
 use Rattle.swap_world.proofs.Ways.{if_ok, if_err}

@@ -5,7 +5,7 @@ use Rattle.swap_digraph.specs.Deal.{party, counterparty}
 use Rattle.ledger_core.specs.Book.{history}
 use Rattle.ledger_core.specs.History.{IsLegal, fit}
 use Rattle.swap_rules.specs.Machine.{Begins}
-use Rattle.deviators.specs.View.{IsPartyAnswer}
+use Rattle.swap_run.specs.View.{IsPartyAnswer}
 use Rattle.swap_run.specs.Run.{plan_with_ledger}
 use Rattle.swap_world.specs.Acting.{histories, landed, taken, seen}
 use Rattle.swap_world.specs.Inside.{IsArcLedger}

@@ -1,5 +1,5 @@
 use Rattle.std.proofs.Common.{ap, false, sym, ◌∙◌}
-use Rattle.transcript_lines.specs.Between.{separated_parts}
+use Rattle.transcript_book.specs.Between.{separated_parts}
 use Rattle.told_ledgers.proofs.Words.{accepted_after, accepted_first}
 use Rattle.told_ledgers.proofs.kind.ends_accepted.Goals as goal
 

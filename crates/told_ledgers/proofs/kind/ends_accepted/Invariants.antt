@@ -1,5 +1,5 @@
 use Rattle.std.proofs.Common.{◌≡◌, length}
-use Rattle.transcript_lines.specs.Between.{separated_parts}
+use Rattle.transcript_book.specs.Between.{separated_parts}
 use Rattle.told_ledgers.specs.Words.{ends_accepted}
 use Rattle.told_ledgers.proofs.Words.{accepted_after}
 use Rattle.told_ledgers.proofs.kind.ends_accepted.Given as goal

@@ -1,5 +1,5 @@
 use Rattle.std.proofs.Common.{◌≡◌, ◌+◌, ◌-◌, ◌∙◌, ap, arith, length-append, refl, ℕ}
-use Rattle.transcript_lines.specs.Reading.{parse_locks}
+use Rattle.transcript_book.specs.Reading.{parse_locks}
 use Rattle.transcript_book.proofs.Members.{locks_on, locks_start}
 use Rattle.transcript_book.proofs.call.parse_locks.Goals as goal
 

@@ -1,5 +1,5 @@
 use Rattle.std.proofs.Common.{◌≡◌, ◌-◌, length}
-use Rattle.transcript_lines.specs.Reading.{parse_locks}
+use Rattle.transcript_book.specs.Reading.{parse_locks}
 use Rattle.transcript_book.proofs.Members.{with_locks}
 use Rattle.transcript_book.proofs.call.parse_locks.Given as goal
 

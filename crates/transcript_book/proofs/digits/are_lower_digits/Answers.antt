@@ -2,7 +2,7 @@ use Rattle.std.proofs.Common.{ap, ap₂, sym, ◌∙◌, ◌&&◌, arith}
 use Rattle.std.specs.List.{list_all}
 use Rattle.std.proofs.lemmas.List.{take_all}
 use Rattle.std.proofs.lemmas.List.Folds.{list_all_more}
-use Rattle.transcript_lines.specs.Reading.{is_lower_digit}
+use Rattle.transcript_book.specs.Reading.{is_lower_digit}
 use Rattle.transcript_book.proofs.digits.are_lower_digits.Goals as goal
 
 pub digits-preserved : goal.digits-preserved

@@ -1,5 +1,5 @@
 use Rattle.std.proofs.Common.{◌≡◌, length}
-use Rattle.transcript_lines.specs.Reading.{parse_each_word, parse_signature}
+use Rattle.transcript_book.specs.Reading.{parse_each_word, parse_signature}
 use Rattle.transcript_book.proofs.Members.{with_front}
 use Rattle.transcript_book.proofs.lists.each_signature.Given as goal
 

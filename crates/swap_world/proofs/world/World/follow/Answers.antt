@@ -1,6 +1,6 @@
 use Rattle.std.proofs.Common.{◌≡◌, ◌⊎◌, ◌<◌, ℕ, Bool, OnOk, OnErr, IfOk, set, slice_index_or, false, refl, sym, ◌∙◌, subst}
 use Rattle.ledger_core.specs.Book.{Histories}
-use Rattle.deviators.specs.Script.{next_call}
+use Rattle.swap_run.specs.Script.{next_call}
 use Rattle.swap_job.specs.declared.event.Event.TheVariants.{Act}
 use Rattle.swap_job.specs.declared.job.Role.TheVariants as kinds
 use Rattle.swap_run.specs.Called.{apply_step}

@@ -1,5 +1,0 @@
-use Rattle.audited_runs.proofs.Whole as whole
-use Rattle.audited_runs.proofs.run_digests.runs_hold_digests.Goals as goal
-
-pub returns : goal.returns
-returns c = whole.runs_hold_digests

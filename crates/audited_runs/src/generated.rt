@@ -1,8 +1,0 @@
-//! The run of what `gen` writes of a number is the one that the number's summary tells of.
-
-ghost use Rattle.audited_runs.specs.Generated.{GeneratedRunsAreSummed};
-
-/// A run of what `gen` writes writes the report of the book that the summary tells of.
-pub fn generated_runs_are_summed()
-    ensures { GeneratedRunsAreSummed }
-{}

@@ -1,8 +1,0 @@
-use Rattle.std.proofs.Common.{◌≡◌, ◌++◌, drop}
-use Rattle.swap_base.specs.Text.{lines}
-use Rattle.clear_line.specs.ClearedText.{cycle_line}
-use Rattle.clear_line.proofs.group.put_cycles.Given as goal
-
-abbrev pub invariant-loop-cycle : goal.invariant-loop-cycle
-invariant-loop-cycle l =
-    l.out.items ++ lines (cycle_line l.names) l.cycle-index (drop l.cycle-index l.cycles) ≡ l.fn.out.items ++ lines (cycle_line l.names) 0 l.cycles

@@ -1,0 +1,9 @@
+use Rattle.std.proofs.Common.{◌≡◌, ◌++◌}
+use Rattle.std.specs.List.{flat_map, range_with_len}
+use Rattle.conduct_check.specs.Judged.{judged_book}
+use Rattle.swap_rules.specs.declared.finding.Rule.TheVariants.{Unlock}
+use Rattle.swap_rules.specs.Findings.{arc_late_findings}
+use Rattle.conduct_check.proofs.lates.put_late_lock_unlocks.Given as goal
+
+abbrev pub invariant-loop-arc : goal.invariant-loop-arc
+invariant-loop-arc l = l.out.items ≡ l.initial.out.items ++ flat_map (arc_late_findings l.judged.deal.now (judged_book l.judged) l.judged.party (Unlock l.lock)) (range_with_len 0 l.arc)

@@ -1,0 +1,16 @@
+use Rattle.std.proofs.Common.{sym, ◌∙◌}
+use Rattle.conduct_check.specs.Judged.{judged_book}
+use Rattle.swap_rules.specs.declared.finding.Rule.TheVariants.{Publish}
+use Rattle.conduct_check.proofs.AskedLate.{no_publish, publish_asked}
+use Rattle.conduct_check.proofs.Lateness.{none_late}
+use Rattle.conduct_check.proofs.lates.put_late_publish.Goals as goal
+
+pub returns-then-not-leaves : goal.returns-then-not-leaves
+returns-then-not-leaves c =
+    let j = c.args.judged.now in
+    none_late j.deal.now (judged_book j) j.party Publish c.args.arc c.args.out.now.items (no_publish j.deal.now (judged_book j) j.party c.args.arc (sym c.leaves.ensures ∙ c.if-not-leaves.true))
+
+pub put_late_arc-requires-clause-asked : goal.put_late_arc-requires-clause-asked
+put_late_arc-requires-clause-asked c =
+    let j = c.args.judged.now in
+    publish_asked j.deal.now (judged_book j) j.party c.args.arc c.args.from c.requires.from (sym c.leaves.ensures ∙ c.if-not-leaves.false)

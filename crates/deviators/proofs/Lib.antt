@@ -1,4 +1,0 @@
-pub mod Replays
-pub mod Naming
-pub mod Answering
-pub mod Scripts

@@ -1,6 +1,0 @@
-use Rattle.std.proofs.Common.{◌≡◌, take}
-use Rattle.deviators.specs.Rules.{keys_known}
-use Rattle.deviators.proofs.replayed.keys_known.Given as goal
-
-abbrev pub invariant-loop-list : goal.invariant-loop-list
-invariant-loop-list l = l.keys.items ≡ keys_known (take l.list-index l.known.histories)

@@ -1,9 +1,0 @@
-use Rattle.std.proofs.Common.{sym, subst}
-use Rattle.deviators.specs.View.{MayAnswer}
-use Rattle.deviators.proofs.Answering.{greedy_may}
-use Rattle.deviators.proofs.rules.greedy_rule.Goals as goal
-
-pub returns-clause-fits : goal.returns-clause-fits
-returns-clause-fits c =
-    subst (MayAnswer c.args.deal.now c.args.me) (sym c.claim_in_turn.ensures)
-    (greedy_may c.args.deal.now c.args.me c.args.turn c.args.known.now.histories)

@@ -1,4 +1,0 @@
-pub mod Program
-pub mod View
-pub mod Script
-pub mod Rules

@@ -1,9 +1,0 @@
-use Rattle.std.proofs.Common.{◌≡◌, ◌++◌}
-use Rattle.std.specs.List.{flat_map, range_with_len}
-use Rattle.sent_keys.specs.Judged.{judged_book}
-use Rattle.swap_rules.specs.declared.finding.Rule.TheVariants.{Refund}
-use Rattle.swap_rules.specs.Findings.{arc_late_findings}
-use Rattle.late_check.proofs.lates.put_late_refunds.Given as goal
-
-abbrev pub invariant-loop-arc : goal.invariant-loop-arc
-invariant-loop-arc l = l.out.items ≡ l.initial.out.items ++ flat_map (arc_late_findings l.judged.deal.now (judged_book l.judged) l.judged.party Refund) (range_with_len 0 l.arc)

@@ -1,9 +1,0 @@
-use Rattle.std.proofs.Common.{◌≡◌, ◌++◌}
-use Rattle.std.specs.List.{flat_map, range_with_len}
-use Rattle.sent_keys.specs.Judged.{judged_book}
-use Rattle.swap_rules.specs.declared.finding.Rule.TheVariants.{Unlock}
-use Rattle.late_check.specs.Overdue.{rule_late_findings}
-use Rattle.late_check.proofs.lates.put_late_unlocks.Given as goal
-
-abbrev pub invariant-loop-lock : goal.invariant-loop-lock
-invariant-loop-lock l = l.out.items ≡ l.initial.out.items ++ flat_map (λ i. rule_late_findings l.judged.deal.now (judged_book l.judged) l.judged.party (Unlock i)) (range_with_len 0 l.lock)

@@ -1,4 +1,0 @@
-pub mod Lists
-pub mod Fields
-pub mod Limits
-pub mod Names

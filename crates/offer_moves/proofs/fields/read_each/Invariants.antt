@@ -1,0 +1,9 @@
+use Rattle.std.proofs.Common.{◌≡◌, drop}
+use Rattle.serde_json.specs.View.{view}
+use Rattle.offer_moves.specs.Lists.{collected_results}
+use Rattle.offer_moves.proofs.Lists.{with_front}
+use Rattle.offer_moves.proofs.fields.read_each.Given as goal
+
+abbrev pub invariant-loop-value : goal.invariant-loop-value
+invariant-loop-value g l = with_front l.list.items (collected_results (λ v. g.T.Member.said l.context l.line (view v)) (drop l.value-index l.values)) ≡ collected_results
+    (λ v. g.T.Member.said l.context l.line (view v)) l.values

@@ -1,0 +1,10 @@
+pub mod RefusalLaws
+pub mod Apart
+pub mod Enough
+pub mod Written
+pub mod Bounded
+pub mod Laws
+pub mod Generated
+pub mod Digests
+pub mod Transcripts
+pub mod RunDigests

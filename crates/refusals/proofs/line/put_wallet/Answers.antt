@@ -1,7 +1,0 @@
-use Rattle.std.proofs.Common.{append_assoc}
-use Rattle.refusals.specs.Line.{reason_text}
-use Rattle.refusals.proofs.line.put_wallet.Goals as goal
-
-pub returns : goal.returns
-unfolding reason_text
-returns c = rw (← append_assoc c.args.out.now.items _ _, ← c.in_ok-put_party.ensures) c.put.ensures

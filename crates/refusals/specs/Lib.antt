@@ -1,4 +1,0 @@
-pub mod Words
-pub mod Escaped
-pub mod Refusal
-pub mod Line

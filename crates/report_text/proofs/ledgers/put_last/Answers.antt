@@ -1,5 +1,0 @@
-use Rattle.report_text.proofs.Books.{low_height}
-use Rattle.report_text.proofs.ledgers.put_last.Goals as goal
-
-pub height-requires : goal.height-requires
-height-requires c = low_height c.args.deal.now c.args.number c.args.entries.now c.requires.legal

@@ -1,4 +1,0 @@
-use Rattle.report_text.proofs.report.write_found.Goals as goal
-
-pub returns : goal.returns
-returns g c = rw (c.as_slice.ensures, c.as_slice-2.ensures) at c.write_findings.ensures

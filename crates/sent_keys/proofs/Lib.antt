@@ -1,3 +1,0 @@
-pub mod Unlocks
-pub mod OwnArcs
-pub mod Loops

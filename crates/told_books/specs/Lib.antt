@@ -1,2 +1,0 @@
-pub mod WithoutNoise
-pub mod Laws

@@ -1,2 +1,0 @@
-pub mod ToldLife
-pub mod Laws

@@ -1,4 +1,0 @@
-pub mod Apart
-pub mod Enough
-pub mod Written
-pub mod Bounded

@@ -1,5 +1,0 @@
-pub mod Between
-pub mod Words
-pub mod Lines
-pub mod Reading
-pub mod Laws

@@ -1,4 +1,0 @@
-pub mod Whole
-pub mod Back
-pub mod Steps
-pub mod LastLine

@@ -1,4 +1,0 @@
-pub mod Header
-pub mod Stages
-pub mod Reading
-pub mod Laws

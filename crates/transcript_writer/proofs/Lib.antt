@@ -1,4 +1,0 @@
-pub mod Fields
-pub mod TextSections
-pub mod Sequence
-pub mod Ticks

@@ -1,4 +1,0 @@
-use Rattle.transcript_writer.proofs.transcript.put_head.Goals as goal
-
-pub returns : goal.returns
-returns c = rw (← c.in_ok-header.ensures, ← c.as_slice.ensures) c.put.ensures
