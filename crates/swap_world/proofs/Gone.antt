@@ -263,6 +263,10 @@ quiet_act sw c s v alone =
 pub quiet_run : (c : Cast) (s : State) (v : ℕ) → asks c v ≡ false → IsQuiet (λ c s. step c s (Act v)) c s
 quiet_run c s v alone = subst (λ (f : Cast → State → State). IsQuiet f c s) (plainly (Act v)) (quiet_act (λ a. false) c s v alone)
 
+-- a tick is quiet in a run
+pub quiet_run_tick : (c : Cast) (s : State) (a k : ℕ) → IsQuiet (λ c s. step c s (Tick a k)) c s
+quiet_run_tick c s a k = record { same = λ g. refl; asked = refl }
+
 -- where it changes nothing it does so whatever is answered
 pub quiet_rests : (f : Cast → State → State) (c : Cast) (s : State) → IsQuiet f c s → f c s ≡ s → (g : Answers) → f (with_answers c g) s ≡ s
 quiet_rests f c s k e g = k.same g ∙ e

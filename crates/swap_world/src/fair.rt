@@ -117,21 +117,21 @@ pub(crate) fn deal_horizon(deal: &Deal) -> u64
 }
 
 /// Ticks a ledger by one height, where it isn't above the horizon.
-fn tick_low<A: Strategies>(world: &mut World, strategies: &A, arc: ArcId) -> Result<(), NoMemory>
+fn tick_low<A: Strategies>(world: &mut World, _strategies: &A, arc: ArcId) -> Result<(), NoMemory>
     requires arc { arc < length world.old.deal.graph.arcs }
-    requires held { AreHeld (A.holds strategies.now) world.old.roles }
-    ensures ok { OnOk result (HasGone (A.gives strategies.now) (λ c s. tick_low c s arc) world.old world.new) }
-    ensures err { OnErr result (IsStopped (A.gives strategies.now) (λ c s. low_step c.deal s.book arc) world.old world.new) }
+    requires goes_on { world.old.stopped ≡ false }
+    ensures ok { OnOk result (HasGone (A.gives _strategies.now) (λ c s. tick_low c s arc) world.old world.new) }
+    ensures err { OnErr result (IsStopped (A.gives _strategies.now) (λ c s. low_step c.deal s.book arc) world.old world.new) }
 {
     if world.height(arc) as u64 > deal_horizon(world.deal()) {
         return Ok(());
     }
-    world.step(strategies, &Event::Tick(arc, 1))
+    world.tick(arc, 1)
 }
 
 /// Ticks each ledger that isn't above the horizon by one height.
 fn ticks<A: Strategies>(world: &mut World, strategies: &A) -> Result<(), NoMemory>
-    requires held { AreHeld (A.holds strategies.now) world.old.roles }
+    requires goes_on { world.old.stopped ≡ false }
     ensures ok { OnOk result (HasGone (A.gives strategies.now) ticks world.old world.new) }
     ensures err { OnErr result (IsStopped (A.gives strategies.now) (λ c s. tick_steps c.deal s.book) world.old world.new) }
 {
@@ -156,7 +156,7 @@ fn is_above_horizon(world: &World) -> bool
 
 /// Ticks each ledger that isn't above the horizon by one height, `count` times.
 fn pass<A: Strategies>(world: &mut World, strategies: &A, count: u64) -> Result<(), NoMemory>
-    requires held { AreHeld (A.holds strategies.now) world.old.roles }
+    requires goes_on { world.old.stopped ≡ false }
     ensures ok { OnOk result (HasGone (A.gives strategies.now) (λ c s. repeat count (ticks c) s) world.old world.new) }
     ensures err { OnErr result (IsStopped (A.gives strategies.now) (pass_steps count) world.old world.new) }
 {

@@ -164,7 +164,8 @@ impl World {
         }
     }
 
-    fn tick(&mut self, arc: ArcId, k: u32) -> Result<(), NoMemory>
+    /// Ticks a ledger by k heights.
+    pub(crate) fn tick(&mut self, arc: ArcId, k: u32) -> Result<(), NoMemory>
         requires event { CanTick self.old.deal arc k }
         requires goes_on { self.old.stopped ≡ false }
         ensures ok { OnOk result (self.new ≡ record self.old { state = step (world_cast self.old) self.old.state (Event.Tick arc k) }) }

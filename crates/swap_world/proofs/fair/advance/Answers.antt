@@ -25,8 +25,9 @@ pub ticks-requires : goal.ticks-requires
 ticks-requires g c =
     let gives = g.A.Strategies.gives c.args.strategies.now in
     record {
-      held = held_gone gives turns c.pass.new.world c.turns.new.world _ c.in_ok-turns.ensures.ok
-          (held_gone gives (λ x s. repeat c.quiet_rounds-quiet.result (ticks x) s) c.args.world.now c.pass.new.world _ c.in_ok-pass.ensures.ok c.requires.held);
+      goes_on = goes_on_gone gives turns c.pass.new.world c.turns.new.world c.in_ok-turns.ensures.ok
+          (goes_on_gone gives (λ x s. repeat c.quiet_rounds-quiet.result (ticks x) s) c.args.world.now c.pass.new.world c.in_ok-pass.ensures.ok
+          c.requires.goes_on);
     }
 
 pub returns-in_err-pass-clause-err : goal.returns-in_err-pass-clause-err

@@ -4,7 +4,7 @@ use Rattle.swap_run.specs.Steps.{pass_steps, tick_steps}
 use Rattle.swap_world.specs.Gone.{HasGone}
 use Rattle.swap_world.specs.Value.{answering_cast}
 use Rattle.swap_world.proofs.Ways.{along_pass, if_err}
-use Rattle.swap_world.proofs.Gone.{begun, held_gone}
+use Rattle.swap_world.proofs.Gone.{begun, goes_on_gone}
 use Rattle.swap_world.proofs.Loops.{repeat_on, repeat_stops}
 use Rattle.swap_world.proofs.fair.pass.Goals as goal
 
@@ -13,8 +13,8 @@ rounds-init g c = begun (g.A.Strategies.gives c.args.strategies.now) c.args.worl
 
 pub ticks-requires : goal.ticks-requires
 ticks-requires g c = record {
-  held = held_gone (g.A.Strategies.gives c.args.strategies.now) (λ x s. repeat c.rounds.counter (ticks x) s) c.args.world.now c.rounds.world _ c.rounds.invariant
-      c.requires.held;
+  goes_on = goes_on_gone (g.A.Strategies.gives c.args.strategies.now) (λ x s. repeat c.rounds.counter (ticks x) s) c.args.world.now c.rounds.world
+      c.rounds.invariant c.requires.goes_on;
 }
 
 pub rounds-preserved : goal.rounds-preserved

@@ -4,7 +4,7 @@ use Rattle.swap_run.specs.Fair.{tick_low}
 use Rattle.swap_run.specs.Steps.{low_step}
 use Rattle.swap_world.specs.Value.{answering_cast}
 use Rattle.swap_world.proofs.Ways.{if_err, low_run}
-use Rattle.swap_world.proofs.Gone.{begun, deal_gone, held_gone}
+use Rattle.swap_world.proofs.Gone.{begun, deal_gone, goes_on_gone}
 use Rattle.swap_world.proofs.Loops.{range_on, range_done, range_stops}
 use Rattle.swap_world.proofs.Finishes.{ticks_stop, ticks_are}
 use Rattle.swap_world.proofs.fair.ticks.Goals as goal
@@ -19,11 +19,11 @@ tick_low-requires-clause-arc g c =
     subst (λ d. c.arcs.arc < length d.graph.arcs) (sym (deal_gone (g.A.Strategies.gives c.args.strategies.now)
     (λ x s. fold (tick_low x) s (take c.arcs.arc (range_with_len 0 (length w.deal.graph.arcs)))) w c.arcs.world c.arcs.invariant)) l
 
-pub tick_low-requires-clause-held : goal.tick_low-requires-clause-held
-tick_low-requires-clause-held g c =
+pub tick_low-requires-clause-goes_on : goal.tick_low-requires-clause-goes_on
+tick_low-requires-clause-goes_on g c =
     let w = c.args.world.now in
-    held_gone (g.A.Strategies.gives c.args.strategies.now) (λ x s. fold (tick_low x) s (take c.arcs.arc (range_with_len 0 (length w.deal.graph.arcs)))) w
-    c.arcs.world _ c.arcs.invariant c.requires.held
+    goes_on_gone (g.A.Strategies.gives c.args.strategies.now) (λ x s. fold (tick_low x) s (take c.arcs.arc (range_with_len 0 (length w.deal.graph.arcs)))) w
+    c.arcs.world c.arcs.invariant c.requires.goes_on
 
 pub returns-in_err-tick_low-clause-err : goal.returns-in_err-tick_low-clause-err
 returns-in_err-tick_low-clause-err g c =
