@@ -31,9 +31,27 @@ next_rest : (seed n count e k : ℕ) → e < count
     ≡ (drawn_event seed (drawn_graph seed n) k).0 ∷ drawn_events seed (drawn_graph seed n) (drawn_event seed (drawn_graph seed n) k).1 (count - (e + 1))
 next_rest seed n count e k lt = let s : count - e ≡ suc (count - (e + 1)) = omega arith in ap (drawn_events seed (drawn_graph seed n) k) s
 
+events_count : (seed : ℕ) (g : Graph) (k count : ℕ) → length (drawn_events seed g k count) ≡ count
+events_count seed g k zero = refl
+events_count seed g k (suc count) = ap suc (events_count seed g (drawn_event seed g k).1 count)
+
+pub many : (seed n count : ℕ) → length (generated_events seed n count) ≡ count
+unfolding generated_events
+many seed n count = events_count seed (drawn_graph seed n) (first_place seed n) count
+
+-- the event that was drawn is that of its number
+pub drawn_is : (seed n count e : ℕ) (event d : Event) → drop e (generated_events seed n count) ≡ event ∷ drop (e + 1) (generated_events seed n count)
+    → event ≡ get_or (generated_events seed n count) e d
+drawn_is seed n count e event d first =
+    let z : e + 0 ≡ e = omega arith in
+    sym (ap (λ (xs : List Event). get_or xs 0 d) first) ∙ get_or-drop e (generated_events seed n count) 0 d
+    ∙ ap (λ k. get_or (generated_events seed n count) k d) z
+
 -- What the next draw gives: the next of the events.
 pub record Draws (seed n count e : ℕ) (event : Event) (next : GeneratorState) : Type 0 where
   pub first : drop e (generated_events seed n count) ≡ event ∷ drop (e + 1) (generated_events seed n count)
+  pub low : e < length (generated_events seed n count)
+  pub event_is : event ≡ get_or (generated_events seed n count) e event
   pub on : HasDrawnEvents seed n count (e + 1) next
 
 pub draws : (seed n count e : ℕ) (g next : GeneratorState) (event : Event) → e < count → HasDrawnEvents seed n count e g
@@ -52,30 +70,19 @@ draws seed n count e g next event lt at is goes =
     ∙ ap (λ (x : Event). x ∷ drawn_events seed graph (drawn_event seed graph g.place).1 (count - (e + 1))) (sym event_is)
     ∙ ap (λ k. event ∷ drawn_events seed graph k (count - (e + 1))) (sym place) in
     let after : drop (e + 1) (generated_events seed n count) ≡ rest = sym (drop-drop 1 e (generated_events seed n count)) ∙ ap (drop 1) whole in
+    let first : drop e (generated_events seed n count) ≡ event ∷ drop (e + 1) (generated_events seed n count) =
+    whole ∙ ap (λ (xs : List Event). event ∷ xs) (sym after) in
+    let size = many seed n count in
     record {
-      first = whole ∙ ap (λ (xs : List Event). event ∷ xs) (sym after);
+      first = first;
+      low = omega (arith, size, lt);
+      event_is = drawn_is seed n count e event event first;
       on = record {
         seed_is = ap (λ (s : GeneratorState). s.seed) goes ∙ at.seed_is;
         parties_are = ap (λ (s : GeneratorState). s.parties) goes ∙ at.parties_are;
         rest = sym after;
       };
     }
-
-events_count : (seed : ℕ) (g : Graph) (k count : ℕ) → length (drawn_events seed g k count) ≡ count
-events_count seed g k zero = refl
-events_count seed g k (suc count) = ap suc (events_count seed g (drawn_event seed g k).1 count)
-
-pub many : (seed n count : ℕ) → length (generated_events seed n count) ≡ count
-unfolding generated_events
-many seed n count = events_count seed (drawn_graph seed n) (first_place seed n) count
-
--- the event that was drawn is that of its number
-pub drawn_is : (seed n count e : ℕ) (event d : Event) → drop e (generated_events seed n count) ≡ event ∷ drop (e + 1) (generated_events seed n count)
-    → event ≡ get_or (generated_events seed n count) e d
-drawn_is seed n count e event d first =
-    let z : e + 0 ≡ e = omega arith in
-    sym (ap (λ (xs : List Event). get_or xs 0 d) first) ∙ get_or-drop e (generated_events seed n count) 0 d
-    ∙ ap (λ k. get_or (generated_events seed n count) k d) z
 
 -- nothing is left
 pub none_left : (seed n count e : ℕ) (g : GeneratorState) → count ≤ e → HasDrawnEvents seed n count e g → drop e (generated_events seed n count) ≡ []

@@ -5,7 +5,7 @@ use Rattle.std.proofs.KnownBytes.{Keeps-refl}
 use Rattle.swap_io.specs.Causes.{ConsumesAtMost}
 use Rattle.swap_io.specs.Handed.{AppendsPrefix}
 use Rattle.swap_world.specs.Gone.{MayGive}
-use Rattle.program_words.specs.Words.{task_text}
+use Rattle.program_words.specs.Words.{task_text, AreNumbersInRange}
 use Rattle.program_words.specs.declared.task.Request.{Request}
 use Rattle.program_words.specs.declared.task.Task.{Task}
 use Rattle.program_words.specs.declared.task.Task.TheVariants.{Input, Race, Number}
@@ -37,6 +37,12 @@ pub asked_as : {X : Type 0} (word : X → List ℕ) (all read : List X) (o : Opt
     → t ≡ u → task_text (map word all) ≡ Some u
 asked_as {X} word all read o t u same exact is variant =
     ap (λ (xs : List X). task_text (map word xs)) (sym same) ∙ sym exact ∙ is ∙ ap (λ (x : Task). Some x) variant
+
+-- the numbers of a request that was read of words are within their ranges
+pub request_within : {X : Type 0} (word : X → List ℕ) (all read : List X) (o : Option Task) (t : Task) (request : Request) → read ≡ all
+    → o ≡ task_text (map word read) → o ≡ Some t → t ≡ Number request → AreNumbersInRange (Number request)
+request_within {X} word all read o t request same exact is variant =
+    task_within (map word all) (Number request) (asked_as word all read o t (Number request) same exact is variant)
 
 pub none_asked : {X : Type 0} (word : X → List ℕ) (all read : List X) (o : Option Task) → read ≡ all → o ≡ task_text (map word read) → o ≡ None
     → task_text (map word all) ≡ None

@@ -1,21 +1,14 @@
 use Rattle.std.proofs.Common.{ℕ, List, map, string_bytes, refl}
 use Rattle.program_words.specs.declared.task.Task.TheVariants.{Input, Number}
-use Rattle.program_words.proofs.Ranges.{task_within}
 use Rattle.swap_main.proofs.Asking.{is_a_race, number_is_no_race, order_is_no_race}
 use Rattle.swap_main.proofs.Performing as tasks
 use Rattle.swap_main.proofs.top.swap_plain.Goals as goal
 
 pub generate-requires-clause-low : goal.generate-requires-clause-low
-generate-requires-clause-low g c =
-    let words : List (List ℕ) = map string_bytes c.args.words.now.items in
-    let is = tasks.asked_as _ _ _ _ _ _ c.deref.ensures.value c.in-Ok.ensures.exact c.in-Some.is c.in-Number.is in
-    (task_within words (Number c.in-Number.request) is).0
+generate-requires-clause-low g c = (tasks.request_within _ _ _ _ _ _ c.deref.ensures.value c.in-Ok.ensures.exact c.in-Some.is c.in-Number.is).0
 
 pub generate-requires-clause-high : goal.generate-requires-clause-high
-generate-requires-clause-high g c =
-    let words : List (List ℕ) = map string_bytes c.args.words.now.items in
-    let is = tasks.asked_as _ _ _ _ _ _ c.deref.ensures.value c.in-Ok.ensures.exact c.in-Some.is c.in-Number.is in
-    (task_within words (Number c.in-Number.request) is).1
+generate-requires-clause-high g c = (tasks.request_within _ _ _ _ _ _ c.deref.ensures.value c.in-Ok.ensures.exact c.in-Some.is c.in-Number.is).1
 
 pub returns-in-Race-clause-words : goal.returns-in-Race-clause-words
 returns-in-Race-clause-words g c calm =

@@ -19,16 +19,10 @@ perform_race-requires-clause-below g c =
     (task_within words (Race c.in-Race.ticks c.in-Race.transcript) is).1
 
 pub generate-requires-clause-low : goal.generate-requires-clause-low
-generate-requires-clause-low g c =
-    let words : List (List ℕ) = map string_bytes c.args.words.now.items in
-    let is = tasks.asked_as _ _ _ _ _ _ c.deref.ensures.value c.in-Ok.ensures.exact c.in-Some.is c.in-Number.is in
-    (task_within words (Number c.in-Number.request) is).0
+generate-requires-clause-low g c = (tasks.request_within _ _ _ _ _ _ c.deref.ensures.value c.in-Ok.ensures.exact c.in-Some.is c.in-Number.is).0
 
 pub generate-requires-clause-high : goal.generate-requires-clause-high
-generate-requires-clause-high g c =
-    let words : List (List ℕ) = map string_bytes c.args.words.now.items in
-    let is = tasks.asked_as _ _ _ _ _ _ c.deref.ensures.value c.in-Ok.ensures.exact c.in-Some.is c.in-Number.is in
-    (task_within words (Number c.in-Number.request) is).1
+generate-requires-clause-high g c = (tasks.request_within _ _ _ _ _ _ c.deref.ensures.value c.in-Ok.ensures.exact c.in-Some.is c.in-Number.is).1
 
 pub returns-in-Input-clause-words : goal.returns-in-Input-clause-words
 returns-in-Input-clause-words g c =
