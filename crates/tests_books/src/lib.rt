@@ -4,18 +4,4 @@
 #![tactic(auto)]
 
 #[cfg(test)]
-mod beside;
-#[cfg(test)]
-mod hashkeys;
-#[cfg(test)]
-mod jobs;
-#[cfg(test)]
-mod memory;
-#[cfg(test)]
-mod passes;
-#[cfg(test)]
-mod raced;
-#[cfg(test)]
-mod replayed;
-#[cfg(test)]
-mod rings;
+mod tests;

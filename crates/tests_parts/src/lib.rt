@@ -5,22 +5,6 @@
 
 mod deals;
 #[cfg(test)]
-mod digraph_text;
-#[cfg(test)]
-mod graphs;
-#[cfg(test)]
-mod lines;
-#[cfg(test)]
-mod lists;
-#[cfg(test)]
-mod rows;
-#[cfg(test)]
-mod signatures;
-#[cfg(test)]
-mod text_rows;
-#[cfg(test)]
-mod whole;
-#[cfg(test)]
-mod words;
+mod tests;
 
 pub use deals::small_deal;

@@ -4,26 +4,4 @@
 #![tactic(auto)]
 
 #[cfg(test)]
-mod attackers;
-#[cfg(test)]
-mod attacks;
-#[cfg(test)]
-mod deals;
-#[cfg(test)]
-mod meetings;
-#[cfg(test)]
-mod names;
-#[cfg(test)]
-mod offers;
-#[cfg(test)]
-mod passing;
-#[cfg(test)]
-mod presenting;
-#[cfg(test)]
-mod publishing;
-#[cfg(test)]
-mod runs;
-#[cfg(test)]
-mod streaming;
-#[cfg(test)]
-mod taking;
+mod tests;

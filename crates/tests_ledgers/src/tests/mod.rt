@@ -1,0 +1,10 @@
+mod disks;
+mod entries;
+mod faults;
+mod index;
+mod learning;
+mod ledgers;
+mod replies;
+mod resumed;
+mod rows;
+mod shown;

@@ -1,0 +1,9 @@
+mod digraph_text;
+mod graphs;
+mod lines;
+mod lists;
+mod rows;
+mod signatures;
+mod text_rows;
+mod whole;
+mod words;

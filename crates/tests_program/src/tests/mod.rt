@@ -1,0 +1,12 @@
+mod attackers;
+mod attacks;
+mod deals;
+mod meetings;
+mod names;
+mod offers;
+mod passing;
+mod presenting;
+mod publishing;
+mod runs;
+mod streaming;
+mod taking;
