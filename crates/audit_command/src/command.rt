@@ -41,19 +41,20 @@ fn write_audit_report<K: Sink>(
 /// lines state is kept, and none of their text.
 pub fn audit_transcript<S: Source, K: Sink>(
     alloc: Global,
-    input: &mut Input,
+    mut input: Input,
     source: &mut S,
     sink: &mut K,
 ) -> Status
-    requires { input.old ≡ fresh }
+    requires { input ≡ fresh }
     ensures says { AuditSays (streams (S.left source.old) (S.faults source.old) (K.taken sink.old) (K.faults sink.old))
         (streams (S.left source.new) (S.faults source.new) (K.taken sink.new) (K.faults sink.new)) result }
     ensures calm { ¬ (result ≡ Status.ReadFault) → S.faults source.new ≡ S.faults source.old }
 {
-    let (job, book) = match read_story(alloc, input, source) {
+    let (job, book) = match read_story(alloc, &mut input, source) {
         Ok(story) => story,
         Err(fault) => return unread(fault),
     };
+    drop(input);
     match judge(alloc, &job, &book) {
         Ok(report) => write_audit_report(alloc, sink, &job, &book, &report),
         Err(Fault::Refused(refusal)) => Status::Refused(refusal.reason, refusal.names),

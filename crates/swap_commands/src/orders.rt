@@ -40,7 +40,7 @@ pub fn run_order<S: Source, K: Sink, A: Strategies>(
         Order::Check => check(alloc, strategies, &mut input, source, sink),
         Order::Run { transcript } => run(alloc, strategies, transcript, &mut input, source, sink),
         Order::Make => make(alloc, strategies, &mut input, source, sink),
-        Order::Audit => audit_transcript(alloc, &mut input, source, sink),
+        Order::Audit => audit_transcript(alloc, input, source, sink),
         Order::Clear => clear(alloc, strategies, &mut input, source, sink),
         Order::Many => many(alloc, strategies, &mut input, source, sink),
     }

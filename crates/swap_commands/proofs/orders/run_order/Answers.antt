@@ -35,11 +35,11 @@ returns-in-Clear-clause-says g c = rw c.in-Clear.is c.clear.ensures.says
 pub returns-in-Clear-clause-calm : goal.returns-in-Clear-clause-calm
 returns-in-Clear-clause-calm g c = c.clear.ensures.calm
 
-pub returns-clause-says : goal.returns-clause-says
-returns-clause-says g c = rw c.in-Many.is c.many.ensures.says
+pub returns-in-Many-clause-says : goal.returns-in-Many-clause-says
+returns-in-Many-clause-says g c = rw c.in-Many.is c.many.ensures.says
 
-pub returns-clause-calm : goal.returns-clause-calm
-returns-clause-calm g c = c.many.ensures.calm
+pub returns-in-Many-clause-calm : goal.returns-in-Many-clause-calm
+returns-in-Many-clause-calm g c = c.many.ensures.calm
 
 pub returns-in_default-clause-says : goal.returns-in_default-clause-says
 returns-in_default-clause-says g c = inl (Keeps-refl (g.K.Sink.taken c.args.sink.now), none_consumed (g.S.Source.left c.args.source.now))
