@@ -1,7 +1,10 @@
-"""An independent signer, written from docs/FORMATS.md alone: what seeds give a job, and
+#!/usr/bin/env python3
+"""An independent signer, written from docs/using/contract.md alone: what seeds give a job, and
 hashkeys."""
 from __future__ import annotations
 
+import json
+import sys
 from functools import cache
 from hashlib import sha256
 from typing import Any, Optional
@@ -80,3 +83,35 @@ def hashkey(identity: bytes, seeds: list[bytes], lock: int, path: list[int], sec
         message = message_of(identity, lock, path[at:], secret, sigs[0] if sigs else b"")
         sigs.insert(0, signature(seeds[path[at]], path[at], lock, message))
     return secret, sigs
+
+
+# ---- lines, as examples/vectors/run asks them
+
+
+def signed_words(words: list[str]) -> tuple[bytes, int, int, bytes]:
+    """Whose signature it is, and the message."""
+    seed, party, lock, identity, suffix, secret, inner = words
+    parties, value = list(map(int, suffix.split(","))), bytes.fromhex
+    following = b"" if inner == "-" else value(inner)
+    return value(seed), int(party), int(lock), message_of(value(identity), int(lock), parties, value(secret), following)
+
+
+def answer(line: str) -> str:
+    """The answer to a line: an id, a secret, a hashlock, a key, a message or a signature."""
+    word, _, rest = line.partition(" ")
+    if word == "id":
+        header = json.loads(rest)
+        return deal_id(header, header["mode"] == "hashkeys").hex()
+    words = rest.split(" ")
+    if word in ("message", "sign"):
+        seed, party, lock, message = signed_words(words)
+        return (message if word == "message" else signature(seed, party, lock, message)).hex()
+    seed = bytes.fromhex(words[0])
+    if word == "key":
+        return public_key(seed, int(words[1]), int(words[2])).hex()
+    return (secret_of(seed) if word == "secret" else digest(secret_of(seed))).hex()
+
+
+if __name__ == "__main__":
+    for told in sys.stdin:
+        print(answer(told.rstrip("\n")), flush=True)

@@ -22,6 +22,7 @@ three:           1 hashkeys 10 10 2;   alice bob 100, bob carol 5, carol alice 1
 three_timelocks: 1 timelocks 10 10 2;  alice bob 100, bob carol 5, carol alice 1;        alice
 two_leaders:     1 hashkeys 12 10 2;   alice bob 7, bob alice 1, bob carol 2, carol alice 1000000000000; alice bob
 two_payments:    2 hashkeys 10 10 1;   alice bob 100, alice bob 5, bob alice 40;         alice
+two_leaders_2:   2 hashkeys 12 10 2;   alice bob 7, bob alice 1, bob carol 2, carol alice 1000000000000; alice bob
 """
 
 
@@ -182,7 +183,7 @@ def signature_rows() -> Iterator[Row]:
         for at, sig in enumerate(sigs):
             inner = sigs[at + 1] if at + 1 < len(sigs) else b""
             message = message_of(deal_id(made, True), lock, path[at:], secret, inner)
-            told = {"deal": name, "seed": seeds()[path[at]].hex(), "party": path[at], "lock": lock}
-            told |= {"suffix": path[at:], "secret": secret.hex()}
+            told = {"deal": name, "id": deal_id(made, True).hex(), "seed": seeds()[path[at]].hex(), "party": path[at], "lock": lock}
+            told |= {"suffix": path[at:], "secret": secret.hex(), "leader seed": seeds()[path[-1]].hex()}
             told |= {"public key": public_key(seeds()[path[at]], path[at], lock).hex(), "inner": inner.hex(), "message": message.hex()}
             yield told | {"digits": digits_of(message), "signature": sig.hex()}

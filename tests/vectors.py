@@ -15,6 +15,7 @@ from pathlib import Path
 from typing import Iterable
 
 sys.dont_write_bytecode = True
+from kit_rows import calls_text
 from program import HERE, Answer, Program, Tests, must
 from stories import stories
 from texts import asked, is_wanted, told
@@ -38,7 +39,7 @@ def files() -> dict[str, str]:
     """What the signer makes: the text of each file but the answers of transcripts."""
     tables = {"deals.json": deal_rows, "signatures.json": signature_rows, "hashkeys.json": hashkey_rows}
     told = {f"transcripts/{name}.transcript": text for name, text in stories().items()}
-    return {name: table(rows()) for name, rows in tables.items()} | told
+    return {name: table(rows()) for name, rows in tables.items()} | told | {"calls.json": calls_text()}
 
 
 def write() -> None:

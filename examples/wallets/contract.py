@@ -100,8 +100,9 @@ class Contract:
             return Reply("NotParty")
         if self.published:
             return Reply("AlreadyPublished")
-        if self.balances[party] < terms.amount:
-            return Reply("NoFunds", self.balances[party])
+        have = min(self.balances[party], self.deal.arcs[self.arc].amount)
+        if have < terms.amount:
+            return Reply("NoFunds", have)
         self.published = terms
         self.balances[party] -= terms.amount
         return ACCEPTED
