@@ -15,7 +15,7 @@ from .offers import offer
 from .pool import Crew
 from .progress import Progress
 from .tally import FINDINGS, NOTHING, Tally
-from .work import Programs, last_line, run
+from .work import Programs, run_swap
 
 TABLES = (
     "create table if not exists campaign (terms text not null)",
@@ -59,30 +59,30 @@ def judged(status: int, told: str, sums: dict[str, int]) -> Ran:
 def ran_gen(terms: Terms, programs: Programs, number: int) -> Ran:
     """The summary of the job that a number gives."""
     words = ["gen", "--seed", str(number), "--parties", str(terms.parties), "--events", str(terms.events), "--summary"]
-    done = run([programs.swap, *words], "")
-    if done.returncode > 1 or done.returncode < 0:
-        return judged(done.returncode, last_line(done.stderr), {})
+    done = run_swap(programs, words, "")
+    if done.status > 1 or done.status < 0:
+        return judged(done.status, done.told, {})
     try:
-        it = Summary.parse(done.stdout)
+        it = Summary.parse(done.output)
     except NotOfTheFormatError as why:
         return Ran(4, f"no summary: {why}", {})
     sums = {"parties": it.parties, "arcs": it.arcs, "leaders": it.leaders, "events": it.events, "entries": it.entries, "refused": it.refused}
-    return judged(done.returncode, "", {**sums, **dict(zip(OUTCOMES, it.outcomes)), "findings": it.findings})
+    return judged(done.status, "", {**sums, **dict(zip(OUTCOMES, it.outcomes)), "findings": it.findings})
 
 
 def ran_offer(programs: Programs, number: int) -> Ran:
     """The run of a random offer, if `make` takes it."""
-    made = run([programs.swap, "make"], offer(number) + "\n")
-    done = run([programs.swap, "run"], made.stdout) if made.returncode == 0 else made
-    if done.returncode > 1 or done.returncode < 0:
-        return judged(done.returncode, last_line(done.stderr), {})
+    made = run_swap(programs, ["make"], offer(number) + "\n")
+    done = run_swap(programs, ["run"], made.output) if made.status == 0 else made
+    if done.status > 1 or done.status < 0:
+        return judged(done.status, done.told, {})
     try:
-        report = Report.parse(done.stdout)
+        report = Report.parse(done.output)
     except NotOfTheFormatError as why:
         return Ran(4, f"no report: {why}", {})
     outcomes = [it.outcome for it in report.parties]
     sums = {"parties": len(report.parties), "arcs": len(report.ledgers), **{it: outcomes.count(it) for it in OUTCOMES}}
-    return judged(done.returncode, "", {**sums, "findings": len(report.findings)})
+    return judged(done.status, "", {**sums, "findings": len(report.findings)})
 
 
 def tallied(terms: Terms, programs: Programs, part: tuple[int, range]) -> tuple[int, Tally]:

@@ -6,6 +6,7 @@ import sqlite3
 import time
 from collections.abc import Callable, Iterable, Iterator, Sequence
 from contextlib import AbstractContextManager, contextmanager
+from itertools import islice
 from typing import Any, Protocol
 
 from .work import FaultError
@@ -35,6 +36,9 @@ class Database(Protocol):
     def step(self) -> AbstractContextManager[None]:
         """All that is written in it, or nothing of it."""
 
+    def tables(self) -> set[str]:
+        """The names of the tables that are there."""
+
     def close(self) -> None:
         """Lets go of the state."""
 
@@ -63,7 +67,7 @@ class Sqlite:
     def __init__(self, path: str) -> None:
         self.path = path
         with self.told(StateError):
-            self.database = sqlite3.connect(path, isolation_level=None, timeout=1)
+            self.database = sqlite3.connect(path, isolation_level=None, timeout=1, check_same_thread=False)
             for pragma in ("locking_mode = EXCLUSIVE", "journal_mode = DELETE", "synchronous = FULL", "fullfsync = ON"):
                 self.database.execute(f"pragma {pragma}").fetchall()
             with one_step(self.database.execute, "begin exclusive"):
@@ -74,7 +78,8 @@ class Sqlite:
         try:
             yield
         except sqlite3.Error as why:
-            raise kind(f"{self.path}: {why}") from None
+            told = "another process has the state" if "locked" in str(why) else why
+            raise kind(f"{self.path}: {told}") from None
 
     def rows(self, ask: str, *words: object) -> list[Row]:
         with self.told():
@@ -85,11 +90,17 @@ class Sqlite:
             return self.database.execute(ask, words).rowcount
 
     def change_each(self, ask: str, words: Iterable[Sequence[object]]) -> None:
+        # (a statement that runs long would keep a signal waiting)
+        left = iter(words)
         with self.told():
-            self.database.executemany(ask, words)
+            while some := list(islice(left, 1000)):
+                self.database.executemany(ask, some)
 
     def step(self) -> AbstractContextManager[None]:
         return one_step(self.change, "begin exclusive")
+
+    def tables(self) -> set[str]:
+        return {str(it) for (it,) in self.rows("select name from sqlite_master where type = 'table'")}
 
     def close(self) -> None:
         self.database.close()
@@ -115,7 +126,7 @@ class Postgres:
         until = time.monotonic() + WAIT
         while self.rows("select pg_try_advisory_lock(?)", LOCK) != [(True,)]:
             if time.monotonic() > until:
-                raise StateError("another process has the state")
+                raise StateError("another process has the state: only one day, service or page at a time has a database")
             time.sleep(0.1)
 
     @contextmanager
@@ -141,6 +152,9 @@ class Postgres:
 
     def step(self) -> AbstractContextManager[None]:
         return one_step(self.change, "begin")
+
+    def tables(self) -> set[str]:
+        return {str(it) for (it,) in self.rows("select tablename from pg_tables where schemaname = current_schema()")}
 
     def close(self) -> None:
         self.database.close()

@@ -2,6 +2,7 @@
 batches, settle the batches."""
 from __future__ import annotations
 
+import time
 from collections import defaultdict
 from collections.abc import Iterator, Mapping, Sequence
 from dataclasses import dataclass
@@ -11,7 +12,8 @@ from swap_party.header import compact
 
 from . import state as steps
 from .limits import ASSETS, Edge
-from .pool import Crew
+from .naming import inside
+from .pool import Crew, whole
 from .progress import Progress
 from .rule import NOT_COVERED, Cut
 from .settling import Settling
@@ -19,7 +21,8 @@ from .state import Key, State
 from .wishes import MOST_UNITS, Account, Wish
 from .work import Group, Prepared, RefusedError, Way
 
-ACCOUNTS, KEPT_AT_ONCE = 64, 64
+# The most accounts of a chain in a batch, and how long swaps that are made wait to be kept, in seconds
+ACCOUNTS, KEPT_EACH = 64, 0.5
 MOST_OF_ASSET = 9 * 10**18
 
 
@@ -33,8 +36,8 @@ class Terms:
     way: str
 
 
-def digest_of(wishes: bytes, accounts: bytes | None, terms: Terms) -> str:
-    return sha256(repr((wishes, accounts, terms)).encode()).hexdigest()
+def digest_of(*texts: object) -> str:
+    return sha256(repr(texts).encode()).hexdigest()
 
 
 def beginning(wishes: Sequence[Wish], told: Sequence[Account] | None) -> list[Account]:
@@ -70,25 +73,39 @@ def uncovered(wishes: Sequence[Wish], accounts: Sequence[Account]) -> dict[int, 
     return found
 
 
+def names_of(wishes: Sequence[Wish], accounts: Sequence[Account]) -> dict[str, str]:
+    """The name inside swaps of everybody who has a wish or an account."""
+    return inside([*(it for wish in wishes for it in (wish.payer, wish.payee)), *(it.name for it in accounts)])
+
+
 class Day:
     def __init__(self, state: State, crew: Crew, terms: Terms, way: Way, progress: Progress) -> None:
         self.state, self.crew, self.terms, self.way, self.progress = state, crew, terms, way, progress
         self.wishes: Sequence[Wish] = ()
+        self.inside: dict[str, str] = {}
 
     def run(self, wishes: Sequence[Wish], accounts: Sequence[Account]) -> None:
         """Goes on from the step that is done."""
-        self.wishes = wishes
+        self.make(wishes, accounts)
+        Settling(self.state, self.crew, self.way.settle, wishes, self.inside, self.terms.away).run(self.progress)
+
+    def make(self, wishes: Sequence[Wish], accounts: Sequence[Account]) -> None:
+        """Goes on up to swaps that are made and packed."""
+        self.wishes, self.inside = wishes, names_of(wishes, accounts)
         if self.state.done == steps.READ:
             self.cut(accounts)
         if self.state.done == steps.CUT:
             self.prepare()
         if self.state.done == steps.PREPARED:
             self.state.keep_batches(list(self.batches(self.groups())))
-        Settling(self.state, self.crew, self.way.settle, wishes, self.terms.away).run(self.progress)
 
     def cut(self, accounts: Sequence[Account]) -> None:
         # (a day that is past this step, as most that go on, needs no solver)
-        from .cut import cut
+        from .cut import Part, cut
+        from .cutting import Cutting
+
+        def thin(parts: list[Part]) -> list[list[list[int]]]:
+            return Cutting(parts, self.way.fits, self.state.kept_of(), self.state.keep_told, self.progress).run(self.crew.workers.count)
 
         users = {name: place for place, name in enumerate(sorted({it for wish in self.wishes for it in (wish.payer, wish.payee)}))}
         assets = {name: place for place, name in enumerate(sorted({it.asset for it in self.wishes}))}
@@ -98,42 +115,48 @@ class Day:
             for number, it in enumerate(self.wishes)
             if number not in dropped
         }
-        found = cut(edges, self.way.fits)
+        found = cut(edges, self.way.fits, thin)
         self.state.keep_cut(Cut(found.groups, {**found.dropped, **dropped}))
 
     def groups(self) -> dict[int, list[int]]:
         """The wishes of each swap."""
         found: defaultdict[int, list[int]] = defaultdict(list)
-        for wish, swap in self.state.rows("select number, swap from wish where swap is not null order by number"):
+        for wish, swap in self.state.rows("select number, swap from wish where day = ? and swap is not null order by number"):
             found[swap].append(wish)
         return dict(found)
 
     def group(self, number: int, members: Sequence[int]) -> Group:
         wishes = [self.wishes[it] for it in members]
-        names = sorted({name for it in wishes for name in (it.payer, it.payee)})
-        arcs = [{"from": it.payer, "to": it.payee, "amount": it.units} for it in wishes]
+        ends = [(self.inside[it.payer], self.inside[it.payee]) for it in wishes]
+        names = sorted({name for pair in ends for name in pair})
+        arcs = [{"from": payer, "to": payee, "amount": it.units} for (payer, payee), it in zip(ends, wishes)]
         line = compact({"clear": 1, "start": self.terms.start, "delta": self.terms.delta, "parties": names, "arcs": arcs})
-        return Group(number, line, tuple(it.asset for it in wishes), tuple(it for it in names if it in self.terms.away))
+        away = {self.inside[it] for it in self.terms.away}
+        return Group(number, line, tuple(it.asset for it in wishes), tuple(it for it in names if it in away))
 
     def prepare(self) -> None:
-        made = {it for (it,) in self.state.rows("select number from swap where refused is not null")}
+        made = {it for (it,) in self.state.rows("select number from swap where day = ? and refused is not null")}
         asked = [self.group(number, members) for number, members in self.groups().items() if number not in made]
         self.progress.begin("swaps made", len(made), len(made) + len(asked))
         told: list[Prepared] = []
-        for it in self.crew.each(self.way.prepare, asked):
-            told.append(it)
-            self.progress.step()
-            if len(told) == KEPT_AT_ONCE:
-                self.state.keep_prepared(told)
-                told = []
-        self.state.keep_prepared(told)
+        kept = time.monotonic()
+        try:
+            for it in self.crew.each(self.way.prepare, asked):
+                told.append(it)
+                self.progress.step()
+                if time.monotonic() - kept >= KEPT_EACH:
+                    with whole():
+                        kept, done, told = time.monotonic(), told, []
+                        self.state.keep_prepared(done)
+        finally:
+            self.state.keep_prepared(told)
         self.state.end_preparing()
 
     def batches(self, groups: dict[int, list[int]]) -> Iterator[list[int]]:
         """The swaps in their order, as many in a batch as one text of `many` takes."""
         batch: list[int] = []
         touched: defaultdict[str, set[str]] = defaultdict(set)
-        for (swap,) in self.state.rows("select number from swap where refused = '' order by number"):
+        for (swap,) in self.state.rows("select number from swap where day = ? and refused = '' order by number"):
             if batch and not self.has_room(len(batch), touched, groups[swap]):
                 yield batch
                 batch, touched = [], defaultdict(set)

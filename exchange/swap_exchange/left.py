@@ -5,8 +5,8 @@ from collections.abc import Collection, Iterable, Mapping
 
 from .limits import Edge
 
-# How many wishes a search looks at before it gives up
-LOOKS = 1000
+# How many wishes a search for a cycle, and one for a way into a group, look at before they give up
+LOOKS, EAR_LOOKS = 8000, 300
 
 
 class Left:
@@ -44,7 +44,8 @@ class Left:
             self.take([*leaving, *entering])
 
     def way(self, begin: int, end: int, most: int) -> list[int] | None:
-        """A shortest way of at most so many wishes, searched from both ends."""
+        """A shortest way of at most so many wishes, searched from both ends, unless the search looks
+        at too many."""
         ahead, behind = {begin: -1}, {end: -1}
         front, back = [begin], [end]
         for _ in range(most):
@@ -54,7 +55,7 @@ class Left:
                 back, met = step(back, self.entering, behind, ahead)
             if met is not None:
                 return self.way_ahead(met, ahead) + self.way_behind(met, behind)
-            if not front or not back:
+            if not front or not back or len(ahead) + len(behind) > LOOKS:
                 break
         return None
 
@@ -79,14 +80,15 @@ class Left:
         ahead, front, looks = {begin: -1}, [begin], 0
         for _ in range(most):
             before, front = front, []
-            for wish, payee in (it for user in before for it in self.leaving.get(user, {}).items()):
-                looks += 1
-                if payee in goal:
-                    return [*self.way_ahead(self.edges[wish].payer, ahead), wish]
-                if payee not in ahead:
-                    ahead[payee] = wish
-                    front.append(payee)
-            if not front or looks > LOOKS:
+            for user in before:
+                for wish, payee in self.leaving.get(user, {}).items():
+                    looks += 1
+                    if payee in goal:
+                        return [*self.way_ahead(user, ahead), wish]
+                    if payee not in ahead:
+                        ahead[payee] = wish
+                        front.append(payee)
+            if not front or looks > EAR_LOOKS:
                 break
         return None
 
@@ -94,11 +96,12 @@ class Left:
 def step(front: list[int], ways: Mapping[int, Mapping[int, int]], seen: dict[int, int], goal: Mapping[int, int]) -> tuple[list[int], int | None]:
     """The users one wish further, and one of them that the other side has seen."""
     further: list[int] = []
-    for wish, user in (it for at in front for it in ways[at].items()):
-        if user in seen:
-            continue
-        seen[user] = wish
-        if user in goal:
-            return further, user
-        further.append(user)
+    for at in front:
+        for wish, user in ways[at].items():
+            if user in seen:
+                continue
+            seen[user] = wish
+            if user in goal:
+                return further, user
+            further.append(user)
     return further, None

@@ -9,6 +9,7 @@ import signal
 from collections.abc import Iterable, Iterator
 from concurrent.futures import FIRST_COMPLETED, Executor, Future, ProcessPoolExecutor, wait
 from concurrent.futures.process import BrokenProcessPool
+from contextlib import contextmanager
 from typing import Any
 
 from .leaving import leave_with
@@ -18,10 +19,25 @@ from .work import Answer, Asked, FaultError, Programs, Task, last_line
 BREAKS = 100
 
 
+SIGNALS = (signal.SIGINT, signal.SIGTERM)
+
+
 def begin(parent: int) -> None:
     """A worker ends with the day, and leaves the keyboard's interrupts to it."""
     signal.signal(signal.SIGINT, signal.SIG_IGN)
+    signal.signal(signal.SIGTERM, signal.SIG_DFL)
+    signal.pthread_sigmask(signal.SIG_UNBLOCK, SIGNALS)
     leave_with(parent)
+
+
+@contextmanager
+def whole() -> Iterator[None]:
+    """Has signals wait: a process whose start was cut short would complain."""
+    before = signal.pthread_sigmask(signal.SIG_BLOCK, SIGNALS)
+    try:
+        yield
+    finally:
+        signal.pthread_sigmask(signal.SIG_SETMASK, before)
 
 
 class Workers:
@@ -43,7 +59,11 @@ class Workers:
         self.pool = self.opened()
 
     def close(self) -> None:
-        self.pool.shutdown(wait=True, cancel_futures=True)
+        """Ends the workers, whatever they do."""
+        self.pool.shutdown(wait=False, cancel_futures=True)
+        for it in multiprocessing.active_children():
+            it.kill()
+            it.join()
 
 
 class Cluster(Workers):
@@ -96,11 +116,15 @@ class Crew:
 
     def start(self, task: Task[Asked, Answer], asked: Asked) -> None:
         try:
-            future = self.workers.pool.submit(task, self.programs, asked)
+            future = self.submitted(task, asked)
         except BrokenProcessPool:
             self.again()
-            future = self.workers.pool.submit(task, self.programs, asked)
+            future = self.submitted(task, asked)
         self.running[future] = task, asked
+
+    def submitted(self, task: Task[Asked, Answer], asked: Asked) -> Future[Any]:
+        with whole():
+            return self.workers.pool.submit(task, self.programs, asked)
 
     def again(self) -> None:
         """Asks new workers what those that were lost were asked."""

@@ -7,7 +7,7 @@ from dataclasses import dataclass
 from .limits import ARCS, ASSETS, LEADERS, PARTIES
 
 RULE = (
-    f"a part above {PARTIES} parties, {ARCS} arcs, {LEADERS} leaders or {ASSETS} assets is thinned: cycles of the circulation of greatest value, "
+    f"a part above {PARTIES} parties, {ARCS} arcs, {LEADERS} leaders or {ASSETS} assets is thinned: cycles of a circulation of nearly the greatest value, "
     "then of what is left, most value first, each by the shortest way back; then wishes that join these cycles, most value first"
 )
 NO_CYCLE = "no cycle"

@@ -11,7 +11,7 @@ from swap_party.many import Account, Swap
 from swap_party.report import Report
 
 from .limits import fits
-from .work import HELD, PAID, Batch, FaultError, Group, Placed, Prepared, Programs, RefusedError, Settled, Way, ask, cleared, end_of, ended
+from .work import HELD, PAID, Batch, FaultError, Group, Placed, Prepared, Programs, RefusedError, Settled, Way, ask_swap, cleared, end_of, ended
 
 
 def simulated(seed: bytes) -> Way:
@@ -25,14 +25,13 @@ def seed_of(day: bytes, group: int, party: str) -> bytes:
 
 
 def prepare(seed: bytes, programs: Programs, group: Group) -> Prepared:
-    """Makes a job of a group by `clear`, `make` and `check`."""
+    """Makes a job of a group by `clear` and `make`."""
     try:
         plain = cleared(programs, group)
         seeds = {party: seed_of(seed, group.number, party) for party in plain.parties}
         actors: dict[str, object] = {it: {"strategy": "silent"} for it in group.away}
-        header = json_object(ask([programs.swap, "make"], plain.with_seeds(seeds, actors)))
+        header = json_object(ask_swap(programs, ["make"], plain.with_seeds(seeds, actors)))
         del header["finish"]
-        ask([programs.swap, "check"], compact(header))
     except RefusedError as why:
         return Prepared(group.number, 0, "", f"refused: {why}")
     return Prepared(group.number, len(plain.leaders), compact(header))
@@ -42,7 +41,7 @@ def settle(programs: Programs, batch: Batch) -> Settled:
     """Runs a batch by `many`, and accounts for every unit of its chains."""
     text = str(Many(batch.chains, tuple(Swap(it.chains, it.header) for it in batch.swaps)))
     try:
-        reports = Reports.parse(ask([programs.swap, "many"], text))
+        reports = Reports.parse(ask_swap(programs, ["many"], text))
     except RefusedError as why:
         raise FaultError(f"batch {batch.number} was refused: {why}") from None
     if [it.accounts for it in reports.chains] != expected(batch, reports.reports):

@@ -8,7 +8,7 @@ from .rule import RULE
 from .state import DROPPED, State
 from .work import HELD, PAID, RETURNED
 
-WISH = "select number, payer, payee, units, asset, value, state, reason, swap from wish order by number"
+WISH = "select number, payer, payee, units, asset, value, state, reason, swap from wish where day = ? order by number"
 FIELDS = ("wish", "from", "to", "units", "asset", "value", "state", "reason", "swap")
 LEFT = {RETURNED: "its swap ended without it", HELD: "its contract holds the units for good"}
 Told = dict[str, Any]
@@ -26,7 +26,7 @@ def swaps_in(state: State, wishes: list[Told]) -> list[Told]:
     members: dict[int | None, list[Told]] = {}
     for it in wishes:
         members.setdefault(it["swap"], []).append(it)
-    ask = "select number, batch, leaders, outcomes, findings from swap where refused = '' order by number"
+    ask = "select number, batch, leaders, outcomes, findings from swap where day = ? and refused = '' order by number"
     return [
         {
             "swap": swap,
@@ -65,17 +65,19 @@ def day_of(state: State) -> Told:
     """All that is told of a day that is over."""
     wishes = wishes_in(state)
     swaps = swaps_in(state, wishes)
-    accounts = state.rows("select name, asset, began, units from account order by name, asset")
+    accounts = state.rows("select name, asset, began, units from account where day = ? order by name, asset")
+    decimals = state.decimals()
     units: dict[str, int] = {}
     for _, asset, _, had in accounts:
         units[asset] = units.get(asset, 0) + had
     return {
-        "exchange": 1,
+        "exchange": 2,
+        "day": state.name,
         "rule": RULE,
         "wishes": wishes,
         "swaps": swaps,
         "accounts": [dict(zip(("name", "asset", "began", "units"), it)) for it in accounts],
-        "assets": [{"asset": asset, "units": had} for asset, had in sorted(units.items())],
+        "assets": [{"asset": asset, "units": had, "decimals": decimals.get(asset, 0)} for asset, had in sorted(units.items())],
         "totals": totals_of(wishes, swaps),
     }
 
@@ -85,6 +87,19 @@ def share(part: int, whole: int) -> str:
     return f"{100 * part // whole}.{10000 * part // whole % 100:02}%" if whole else "100.00%"
 
 
+def word(name: str) -> str:
+    """A name as one word of a line: one with blanks or quotes as JSON."""
+    return json.dumps(name, ensure_ascii=False) if set(name) & set(" \"\\") else name
+
+
+def amount(units: int, decimals: int) -> str:
+    """Units as people write them."""
+    if not decimals:
+        return str(units)
+    digits = str(units).zfill(decimals + 1)
+    return f"{digits[:-decimals]}.{digits[-decimals:]}"
+
+
 def swap_lines(swap: Told) -> list[str]:
     outcomes = ", ".join(f"{name} {count}" for name, count in swap["outcomes"].items())
     size = f"parties {swap['parties']} arcs {swap['arcs']} leaders {swap['leaders']} value {swap['value']}"
@@ -92,9 +107,15 @@ def swap_lines(swap: Told) -> list[str]:
     return told + [f"finding {swap['swap']} {finding}" for finding in swap["findings"]]
 
 
-def wish_line(wish: Told) -> str:
-    words = f"{wish['wish']} {wish['from']} {wish['to']} {wish['units']} {wish['asset']} value {wish['value']}"
+def wish_line(wish: Told, decimals: dict[str, int]) -> str:
+    units = amount(wish["units"], decimals[wish["asset"]])
+    words = f"{wish['wish']} {word(wish['from'])} {word(wish['to'])} {units} {word(wish['asset'])} value {wish['value']}"
     return f"{wish['state']} {words}: {wish['reason'] or LEFT[wish['state']]}"
+
+
+def account_line(account: Told, decimals: dict[str, int]) -> str:
+    began, units = (amount(account[it], decimals[account["asset"]]) for it in ("began", "units"))
+    return f"account {word(account['name'])} {word(account['asset'])} {began} -> {units}"
 
 
 def total_lines(totals: Told) -> list[str]:
@@ -107,9 +128,10 @@ def total_lines(totals: Told) -> list[str]:
 
 
 def text_of(day: Told) -> str:
+    decimals = {it["asset"]: it["decimals"] for it in day["assets"]}
     lines = ["exchange day 1", f"rule {day['rule']}"]
     lines += [line for it in day["swaps"] for line in swap_lines(it)]
-    lines += [wish_line(it) for it in day["wishes"] if it["state"] != PAID]
-    lines += [f"account {it['name']} {it['asset']} {it['began']} -> {it['units']}" for it in day["accounts"]]
-    lines += [f"asset {it['asset']} {it['units']}" for it in day["assets"]]
+    lines += [wish_line(it, decimals) for it in day["wishes"] if it["state"] != PAID]
+    lines += [account_line(it, decimals) for it in day["accounts"]]
+    lines += [f"asset {word(it['asset'])} {amount(it['units'], it['decimals'])}" for it in day["assets"]]
     return "\n".join([*lines, *total_lines(day["totals"]), ""])

@@ -17,7 +17,7 @@ from swap_party.report import Report
 from .clock import Clock
 from .limits import fits_audit
 from .living import Living, started, why_ended
-from .work import Batch, Ended, FaultError, Group, Placed, Prepared, Programs, RefusedError, Settled, Way, ask, cleared, ended
+from .work import Batch, Ended, FaultError, Group, Placed, Prepared, Programs, RefusedError, Settled, Way, ask_party, ask_swap, cleared, ended
 
 # What lies beside the wallets' own folders
 FILES = re.compile("board|offer|context|names|start|lock|chain[0-9]+")
@@ -52,9 +52,9 @@ def prepare(folder: str, programs: Programs, group: Group) -> Prepared:
         room = opened(room_of(folder, group.number), offer, group.assets, plain.parties)
         header = agreed(programs, room, plain.parties)
         rows = "".join((room / "board" / f"{name}.row").read_text() for name in plain.parties)
-        if header != ask([programs.party, "deal"], offer + rows).strip():
+        if header != ask_party(programs, ["deal"], offer + rows).strip():
             raise RefusedError("the wallets agree to another deal")
-        ask([programs.swap, "check"], header)
+        ask_swap(programs, ["check"], header)
     except RefusedError as why:
         return Prepared(group.number, 0, "", f"refused: {why}")
     return Prepared(group.number, len(plain.leaders), header)
@@ -114,7 +114,7 @@ def settled(room: Path, programs: Programs, swap: Placed) -> Ended:
     with alone_in(room):
         put(room / "start", "")
         transcript = run(room, programs, deal, swap.away)
-    return ended(Report.parse(ask([programs.swap, "audit"], str(transcript))), str(transcript))
+    return ended(Report.parse(ask_swap(programs, ["audit"], str(transcript))), str(transcript))
 
 
 def run(room: Path, programs: Programs, deal: Header, away: Collection[str]) -> Transcript:

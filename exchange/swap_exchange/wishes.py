@@ -1,21 +1,20 @@
-"""Wishes and accounts, read from CSV or from JSON lines."""
+"""Wishes, accounts and assets, read from CSV or from JSON lines."""
 from __future__ import annotations
 
-import codecs
-import csv
-import json
-from collections.abc import Iterator
+from collections.abc import Iterable, Mapping, Sequence
 from dataclasses import dataclass
+from decimal import Decimal
 
-from swap_party.lines import NotOfTheFormatError, WordError, demand, name, number
+from .tables import RuleError, Table, Words, decimal, id_of, rule, whole
+from .work import RefusedError
 
-MOST_AMOUNT, MOST_UNITS, MOST_VALUE = 10**12, 10**15, 10**15
-WISH, ACCOUNT = ("from", "to", "units", "asset", "value"), ("name", "asset", "units")
+MOST_AMOUNT, MOST_UNITS, MOST_VALUE, DECIMALS, PRICE_DIGITS = 10**12, 10**15, 10**15, 18, 12
+WISH, ACCOUNT, ASSET = ("from", "to", "units", "asset", "value"), ("name", "asset", "units"), ("asset", "decimals", "price")
 
 
 @dataclass(frozen=True)
 class Wish:
-    """Who would pay whom, how much of which asset, and what that is worth to the exchange."""
+    """Who would pay whom, how many units of which asset, and what that is worth to the exchange."""
 
     payer: str
     payee: str
@@ -31,79 +30,138 @@ class Account:
     units: int
 
 
-def rows(text: bytes, fields: tuple[str, ...]) -> Iterator[tuple[int, dict[str, str]]]:
-    """Each line that isn't blank, by its number, as a word for each field that it has."""
-    header: list[str] | None = None
-    text = text.removeprefix(codecs.BOM_UTF8)
-    for line, told in enumerate(text.split(b"\n"), 1):
-        if not told.strip():
-            continue
-        try:
-            words = told.decode("utf-8").strip()
-            if words.startswith("{") and header is None:
-                yield line, json_row(words)
-            elif header is None:
-                header = one_row(words)
-                demand(set(header) <= set(fields) and len(set(header)) == len(header), f"the fields are {','.join(fields)}")
-            else:
-                found = one_row(words)
-                demand(len(found) == len(header), f"the line has {len(found)} fields, not {len(header)}")
-                yield line, dict(zip(header, found))
-        except (UnicodeDecodeError, WordError, ValueError, csv.Error) as why:
-            raise NotOfTheFormatError(line, str(why)) from None
+@dataclass(frozen=True)
+class Asset:
+    """An asset whose amounts have so many digits behind the point, and what one of it is worth."""
+
+    name: str
+    decimals: int = 0
+    price: Decimal | None = None
+
+    @property
+    def price_text(self) -> str | None:
+        return None if self.price is None else str(self.price)
+
+    def units(self, word: str, least: int, most: int) -> int:
+        """The units of an amount as people write it."""
+        if not self.decimals:
+            return whole(word, "units", least, most)
+        units = int(decimal(word, "units", self.decimals).scaleb(self.decimals))
+        rule(least <= units <= most, f"units {word} of {self.name} are {units} of its smallest units, and {least} to {most} are allowed")
+        return units
+
+    def value(self, units: int) -> int:
+        """What units are worth, rounded down."""
+        assert self.price is not None
+        value = int(self.price * units / 10**self.decimals)
+        rule(value <= MOST_VALUE, f"the value {value} is above {MOST_VALUE}")
+        return value
 
 
-def one_row(words: str) -> list[str]:
-    return [it.strip() for it in next(csv.reader([words], strict=True))]
+Assets = Mapping[str, Asset]
 
 
-def json_row(words: str) -> dict[str, str]:
-    found = json.loads(words)
-    demand(isinstance(found, dict), "the line is no JSON object")
-    demand(all(type(it) in (str, int) for it in found.values()), "a field is neither a text nor a whole number")
-    return {str(field): str(value) for field, value in found.items()}
+def asset_of(row: Words) -> Asset:
+    digits = whole(row.get("decimals") or "0", "decimals", 0, DECIMALS)
+    price = decimal(row["price"], "price", PRICE_DIGITS) if row.get("price") else None
+    return Asset(id_of(row["asset"], "the asset"), digits, price)
 
 
-def checked(row: dict[str, str], fields: tuple[str, ...], optional: str = "") -> None:
-    for field in row:
-        demand(field in fields, f"{field!r} is no field of {','.join(fields)}")
-    for field in fields:
-        demand(field in row or field == optional, f"{field!r} is missing")
+def wish_of(row: Words, assets: Assets) -> Wish:
+    payer, payee, asset = id_of(row["from"], "the name"), id_of(row["to"], "the name"), id_of(row["asset"], "the asset")
+    known = assets.get(asset) or Asset(asset)
+    units = known.units(row["units"], 1, MOST_AMOUNT)
+    rule(payer != payee, f"{payer!r} would pay itself")
+    if row.get("value"):
+        value = whole(row["value"], "value", 0, MOST_VALUE)
+    else:
+        value = units if known.price is None else known.value(units)
+    return Wish(payer, payee, units, asset, value)
 
 
-def wish_of(row: dict[str, str]) -> Wish:
-    checked(row, WISH, "value")
-    units = number(row["units"], MOST_AMOUNT)
-    value = number(row.get("value") or row["units"], MOST_VALUE)
-    demand(units, "a wish is of 1 unit at least")
-    demand(row["from"] != row["to"], f"{row['from']} would pay itself")
-    return Wish(name(row["from"]), name(row["to"]), units, name(row["asset"]), value)
+@dataclass
+class Book:
+    """What files tell, and which rows of them are bad."""
+
+    assets: dict[str, Asset]
+    wishes: list[Wish]
+    accounts: list[Account] | None
+    bad: list[str]
+    count: int
 
 
-def account_of(row: dict[str, str]) -> Account:
-    checked(row, ACCOUNT)
-    return Account(name(row["name"]), name(row["asset"]), number(row["units"], MOST_UNITS))
+def assets_of(table: Table) -> dict[str, Asset]:
+    found: dict[str, Asset] = {}
 
+    def put(row: Words) -> None:
+        asset = asset_of(row)
+        rule(asset.name not in found, f"{asset.name!r} is told twice")
+        found[asset.name] = asset
 
-def wishes_of(text: bytes) -> list[Wish]:
-    found = []
-    for line, row in rows(text, WISH):
-        try:
-            found.append(wish_of(row))
-        except WordError as why:
-            raise NotOfTheFormatError(line, str(why)) from None
-    if not found:
-        raise NotOfTheFormatError(1, "there is no wish")
+    list(table.each(put))
     return found
 
 
-def accounts_of(text: bytes) -> list[Account]:
+def wishes_of(table: Table, assets: Assets) -> list[Wish]:
+    """The wishes of a table. Values are compared across assets, so that each wish of several assets
+    tells its own or has a price."""
+    bare: dict[str, int] = {}
+    seen: set[str] = set()
+
+    def put(row: Words) -> Wish:
+        wish = wish_of(row, assets)
+        seen.add(wish.asset)
+        if not row.get("value") and (wish.asset not in assets or assets[wish.asset].price is None):
+            bare.setdefault(wish.asset, 1)
+            rule(len(seen) == 1, f"a wish of {wish.asset!r} has neither a value nor a price, and units of several assets can't be added")
+        else:
+            rule(not bare or set(bare) == seen, f"earlier wishes of {next(iter(bare), '')!r} have neither a value nor a price")
+        return wish
+
+    found = list(table.each(put))
+    if not found and not table.count:
+        table.blame(1, "there is no wish")
+    return found
+
+
+def accounts_of(table: Table, assets: Assets) -> list[Account]:
     found: dict[tuple[str, str], Account] = {}
-    for line, row in rows(text, ACCOUNT):
-        try:
-            account = account_of(row)
-            demand((account.name, account.asset) not in found, f"{account.name} has an account of {account.asset} already")
-        except WordError as why:
-            raise NotOfTheFormatError(line, str(why)) from None
-        found[account.name, account.asset] = account
+
+    def put(row: Words) -> None:
+        key = id_of(row["name"], "the name"), id_of(row["asset"], "the asset")
+        rule(key not in found, f"{key[0]!r} has an account of {key[1]!r} already")
+        found[key] = Account(*key, (assets.get(key[1]) or Asset(key[1])).units(row["units"], 0, MOST_UNITS))
+
+    list(table.each(put))
     return list(found.values())
+
+
+def book_of(wishes: tuple[str, bytes], accounts: tuple[str, bytes] | None, assets: tuple[str, bytes] | None) -> Book:
+    """All that files tell."""
+    tables = [Table(*assets, ASSET, ("decimals", "price"))] if assets else []
+    known = assets_of(tables[0]) if assets else {}
+    tables.append(Table(*wishes, WISH, ("value",)))
+    found = wishes_of(tables[-1], known)
+    had = None
+    if accounts:
+        tables.append(Table(*accounts, ACCOUNT))
+        had = accounts_of(tables[-1], known)
+    return Book(known, found, had, [it for table in tables for it in table.bad], sum(it.count for it in tables))
+
+
+def good(book: Book) -> Book:
+    """The book, if no row of it is bad; else the first bad one is told."""
+    if book.bad:
+        raise RefusedError(book.bad[0] + (f" (and {book.count - 1} more: --check lists them)" if book.count > 1 else ""))
+    return book
+
+
+def known_names(wishes: Sequence[Wish], names: Iterable[str]) -> None:
+    """Each name is one of a user."""
+    users = {it for wish in wishes for it in (wish.payer, wish.payee)}
+    for name in names:
+        if name not in users:
+            raise RefusedError(f"--away names {name!r}, who has no wish and isn't in anybody's")
+
+
+__all__ = ["Account", "Asset", "Book", "RuleError", "Wish", "accounts_of", "assets_of", "book_of", "good", "known_names", "wish_of", "wishes_of"]

@@ -1,11 +1,14 @@
 """What workers are asked and what they answer. Asked twice, they answer the same."""
 from __future__ import annotations
 
+import os
 import subprocess
 import zlib
 from collections.abc import Callable, Mapping
 from dataclasses import dataclass
-from typing import TypeVar
+from functools import lru_cache
+from importlib import import_module
+from typing import Any, TypeVar
 
 from swap_party import Cleared, Plain
 from swap_party.header import json_object
@@ -30,10 +33,11 @@ class RefusedError(Exception):
 
 @dataclass(frozen=True)
 class Programs:
-    """The paths of `swap` and `party`."""
+    """The paths of `swap` and `party`, and that of the library where `swap` is asked in it."""
 
     swap: str
     party: str
+    library: str = ""
 
 
 Task = Callable[[Programs, Asked], Answer]
@@ -107,33 +111,82 @@ class Way:
     settle: Task[Batch, Settled]
 
 
-def run(words: list[str], text: str) -> subprocess.CompletedProcess[str]:
+@dataclass(frozen=True)
+class Done:
+    """How a program ended: its status, what it wrote, and the last line that it told."""
+
+    status: int
+    output: str
+    told: str
+
+
+ENVIRONMENT = {**os.environ, "SWAP_PLAIN": "1", "SWAP_QUIET": "1"}
+
+
+def run(words: list[str], text: str) -> Done:
     try:
-        return subprocess.run(words, input=text, capture_output=True, text=True, check=False)
+        done = subprocess.run(words, input=text, capture_output=True, text=True, check=False, env=ENVIRONMENT)
     except OSError as why:
         raise FaultError(f"{words[0]}: {why.strerror}") from None
+    return Done(done.returncode, done.stdout, last_line(done.stderr))
+
+
+@lru_cache(maxsize=None)
+def library_of(path: str) -> tuple[Any, Any]:
+    """The module that asks the library as it does the program, and the library."""
+    from swap_party import Library
+
+    return import_module("swap_party.program"), Library(path)
+
+
+def has_program(path: str) -> bool:
+    """Whether a library answers as the program does."""
+    try:
+        module, library = library_of(path)
+        return bool(module.answer(["clear"], "", library=library).status == 3)
+    except (ImportError, OSError, AttributeError):
+        return False
+
+
+def run_swap(programs: Programs, words: list[str], text: str) -> Done:
+    """Asks `swap`: in this process where there is the library, or else by a process."""
+    if not programs.library:
+        return run([programs.swap, *words], text)
+    module, library = library_of(programs.library)
+    ended = module.answer(words, text, library=library)
+    output, told = (it.decode() if isinstance(it, bytes) else str(it) for it in (ended.output, ended.told))
+    return Done(int(ended.status), output, last_line(told))
 
 
 def last_line(told: str) -> str:
     return (told.strip().splitlines() or ["it told nothing"])[-1]
 
 
-def ask(words: list[str], text: str) -> str:
+def ask_swap(programs: Programs, words: list[str], text: str) -> str:
+    """What `swap` writes."""
+    return wanted(" ".join(["swap", *words[:1]]), lambda: run_swap(programs, words, text))
+
+
+def ask_party(programs: Programs, words: list[str], text: str) -> str:
+    return wanted(" ".join(["party", *words[:1]]), lambda: run([programs.party, *words], text))
+
+
+def wanted(what: str, asking: Callable[[], Done]) -> str:
     """What a program writes. Where it is killed it is asked again."""
     for _ in range(TRIES):
-        done = run(words, text)
-        if done.returncode == 3:
-            raise RefusedError(done.stderr.strip().rpartition("refused: ")[2])
-        if done.returncode in (0, 1):
-            return done.stdout
-        if done.returncode > 0:
+        done = asking()
+        if done.status == 3:
+            raise RefusedError(done.told.rpartition("refused: ")[2])
+        if done.status in (0, 1):
+            return done.output
+        if done.status > 0:
             break
-    raise FaultError(f"{' '.join(words[:2])} ended with status {done.returncode}: {last_line(done.stderr)}")
+    raise FaultError(f"{what} ended with status {done.status}: {done.told}")
 
 
 def cleared(programs: Programs, group: Group) -> Plain:
     """The plain offer that `clear` makes of a group, which it has to leave whole."""
-    told = Cleared.parse(ask([programs.swap, "clear"], group.line))
+    told = Cleared.parse(ask_swap(programs, ["clear"], group.line))
     line = json_object(group.line)
     if told.left_out or len(told.groups) != 1:
         raise FaultError(f"group {group.number} was cut, and `clear` cut it further")
