@@ -121,9 +121,14 @@ class Browser:
         """Lets the system wish for light or dark."""
         self.ask("Emulation.setEmulatedMedia", features=[{"name": "prefers-color-scheme", "value": scheme}])
 
-    def picture(self, path: str, whole: bool = False) -> None:
-        """Keeps a picture of the window, or of the whole page."""
-        data = self.ask("Page.captureScreenshot", format="png", captureBeyondViewport=whole)["data"]
+    def picture(self, path: str, part: Optional[str] = None) -> None:
+        """Keeps a picture of the window, or of the element that a query finds."""
+        said: dict[str, Any] = {}
+        if part is not None:
+            place = self.run(f"(({{ x, y, width, height }}) => ({{ x: x + scrollX, y: y + scrollY, width, height }}))"
+                             f"(document.querySelector({json.dumps(part)}).getBoundingClientRect())")  # fmt: skip
+            said = {"clip": {**place, "scale": 1}, "captureBeyondViewport": True}
+        data = self.ask("Page.captureScreenshot", format="png", **said)["data"]
         with open(path, "wb") as file:
             file.write(base64.b64decode(data))
 
