@@ -1,10 +1,10 @@
 """A deal without anybody's seed, and the terms that an owner agrees to. docs/FORMATS.md, 'A row',
-'A deal of rows' and 'A party's terms'."""
+'A deal of rows' and 'Terms'."""
 from __future__ import annotations
 
 import re
 from hashlib import sha256
-from typing import Iterator, TYPE_CHECKING
+from typing import Iterator, NamedTuple, TYPE_CHECKING
 
 from .hashes import hashlock_of, public_key, secret_of
 from .ledger import Terms, expiry
@@ -48,6 +48,14 @@ def read_header(reader: Reader, form: str) -> Offer:
     line = reader.next()
     examine_range(len(line), reader.number, "header", 0, MOST_HEADER)
     return header_of(line, reader.number, form, ())
+
+
+def read_dealt(reader: Reader) -> Offer:
+    """The offer of the next line, which is the very line that `party deal` writes of its deal."""
+    offer = read_header(reader, STATED)
+    if compact(transcript_header(offer)).encode() != reader.lines[reader.number - 1]:
+        refuse("BadLine", reader.number)
+    return offer
 
 
 def plain_offer(reader: Reader) -> Offer:
@@ -138,22 +146,34 @@ def read_context(reader: Reader, arcs: int) -> list[tuple[int, str]]:
     return told
 
 
-def read_agreed(reader: Reader) -> tuple[Deal, list[tuple[int, str]], bytes]:
-    """The deal of the next line, the lines of context behind it, and the digest that binds both."""
+class Agreed(NamedTuple):
+    """What is agreed on: the offer of the next line, the lines of context behind it, and the digest
+    that binds both."""
+
+    offer: Offer
+    context: list[tuple[int, str]]
+    digest: bytes
+
+    @property
+    def deal(self) -> Deal:
+        return self.offer.deal
+
+
+def read_agreed(reader: Reader) -> Agreed:
     before = reader.number
-    deal = read_header(reader, STATED).deal
-    context = read_context(reader, len(deal.ends))
+    offer = read_dealt(reader)
+    context = read_context(reader, len(offer.deal.ends))
     said = b"".join(line + b"\n" for line in reader.lines[before : reader.number])
-    return deal, context, sha256(said).digest()
+    return Agreed(offer, context, sha256(said).digest())
 
 
 # ---- terms
 
-def back_from(deal: Deal, arc: int) -> int:
-    """The height from which what is locked on an arc is refunded, whichever of its locks stay
-    closed."""
+def last_expiry(deal: Deal, arc: int) -> int:
+    """The greatest expiry of an arc's locks: up to there a lock of it may be opened, and above it
+    what it locks is refunded, whichever of its locks stay closed."""
     terms = Terms(deal.start, deal.delta, deal.bound, deal.timelocks[arc], deal.amounts[arc], tuple(deal.hashlocks))
-    return 1 + max(expiry(deal, arc, terms, lock) for lock in deal.locks)
+    return max(expiry(deal, arc, terms, lock) for lock in deal.locks)
 
 
 def arc_lines(deal: Deal, party: int) -> Iterator[tuple[int, str]]:
@@ -161,27 +181,30 @@ def arc_lines(deal: Deal, party: int) -> Iterator[tuple[int, str]]:
     by = deal.delta if party in deal.leaders else deal.open_by
     for arc in deal.leaving[party]:
         to, amount = deal.names[deal.ends[arc][1]], deal.amounts[arc]
-        yield arc, "pays %d %s %d publish by %d back %d" % (arc, to, amount, by, back_from(deal, arc))
+        yield arc, "pays %d %s %d publish by %d back %d" % (arc, to, amount, by, last_expiry(deal, arc) + 1)
     for arc in deal.entering[party]:
-        yield arc, "gets %d %s %d" % (arc, deal.names[deal.ends[arc][0]], deal.amounts[arc])
+        payer, last = deal.names[deal.ends[arc][0]], last_expiry(deal, arc)
+        yield arc, "gets %d %s %d open until %d claim by %d" % (arc, payer, deal.amounts[arc], last, last + deal.delta)
 
 
-def terms_lines(deal: Deal, party: int, context: list[tuple[int, str]], agreed: bytes) -> Iterator[str]:
+def terms_lines(agreed: Agreed, party: int) -> Iterator[str]:
+    deal = agreed.deal
     yield "terms %s %d of %d" % (deal.names[party], party, len(deal.names))
     yield "deal " + deal.id.hex()
-    yield "agree " + agreed.hex()
+    yield "agree " + agreed.digest.hex()
     yield "mode %s start %d delta %d bound %d horizon %d" % (deal.mode, deal.start, deal.delta, deal.bound, deal.horizon)
     for arc, line in arc_lines(deal, party):
         yield line
-        yield from [told for about, told in context if about == arc]
+        yield from [told for about, told in agreed.context if about == arc]
     for lock in deal.locks:
         if deal.leaders[lock] == party:
-            yield "leads %d" % lock
+            yield "leads %d show by %d" % (lock, deal.open_by + deal.delta)
+    yield "awake until %d" % (max(last_expiry(deal, arc) for arc in deal.touching[party]) + deal.delta)
 
 
 def terms_text(text: bytes, name: str) -> tuple[bytes, int]:
     """What `party terms NAME` writes; it finds nothing."""
     reader = whole_lines(text)
-    deal, context, agreed = read_agreed(reader)
+    agreed = read_agreed(reader)
     no_more(reader)
-    return joined(terms_lines(deal, party_of(deal, name, 1), context, agreed)), 0
+    return joined(terms_lines(agreed, party_of(agreed.deal, name, 1))), 0

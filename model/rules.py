@@ -71,9 +71,9 @@ class View:
 
     def ready_height(self, party: int) -> int:
         """The height at which a party became ready: the greatest at which an arc that enters it was
-        published."""
+        published, or 0."""
         entries = [self.published(arc) for arc in self.deal.entering[party]]
-        return max(entry.height for entry in entries if entry)
+        return max((entry.height for entry in entries if entry), default=0)
 
     def seen_opening(self, party: int, lock: int) -> Optional[Opening]:
         """The opening of a lock on the least-numbered leaving arc whose opening path lacks the
@@ -114,22 +114,46 @@ def all_due(view: View, party: int, seed: bytes, signed: dict[int, Hashkey]) -> 
     yield from due_refunds(view, party)
 
 
-def all_useful(view: View, party: int, seed: bytes, signed: Any) -> Iterator[tuple[int, Call]]:
-    """What is due less the calls that can only hurt the party: a publish on a ledger above the height by which contracts open, and
-    a hashkey that is withheld.
+def all_useful(view: View, party: int, seed: bytes, signed: Any, at: Sequence[int]) -> Iterator[tuple[int, Call]]:
+    """What is due less the calls that can only hurt the party, where a call that is presented now lands at a height of at most
+    `at[arc]`: a publish that may land above the height by which contracts open, an unlock that its contract may refuse, and a
+    hashkey that is withheld.
     """
     for arc, call in all_due(view, party, seed, signed):
-        is_late = call.kind == PUBLISH and view.height(arc) > view.deal.open_by
-        if not is_late and not (call.kind == UNLOCK and is_withheld(view, party, call.stated.lock)):
+        if call.kind == PUBLISH:
+            is_useful = at[arc] <= view.deal.open_by
+        elif call.kind == UNLOCK:
+            is_useful = is_taken(view, at, call.stated, arc) and not is_withheld(view, party, at, signed, call.stated)
+        else:
+            is_useful = True
+        if is_useful:
             yield arc, call
 
 
-def is_withheld(view: View, party: int, lock: int) -> bool:
-    """Whether a leader has presented no hashkey for its lock, and would present its own too late on an arc that enters it."""
-    deal = view.deal
-    if deal.leaders[lock] != party or view.first_unlock(party, lock):
+def is_taken(view: View, at: Sequence[int], hashkey: Hashkey, arc: int) -> bool:
+    """Whether the hashkey's lock is open on an arc, or its contract would be opened by a call that lands as late as may be."""
+    if view.opened(arc, hashkey.lock):
+        return True
+    return not view.settled(arc) and at[arc] <= last_accepted(view.deal, view.ledgers[arc].correct_terms, hashkey)
+
+
+def has_missed(view: View, party: int, signed: Any) -> bool:
+    """Whether a lock of an arc that enters the party is closed for good to the hashkey that it signed for it."""
+    for arc in view.deal.entering[party]:
+        for lock, hashkey in signed.items():
+            last = last_accepted(view.deal, view.ledgers[arc].correct_terms, hashkey)
+            if not view.opened(arc, lock) and view.height(arc) > last:
+                return True
+    return False
+
+
+def is_withheld(view: View, party: int, at: Sequence[int], signed: Any, hashkey: Hashkey) -> bool:
+    """Whether the party had better not present this hashkey: it has presented none for the lock, has lost nothing, and an arc that
+    enters it wouldn't take the hashkey, or has missed a lock."""
+    if view.first_unlock(party, hashkey.lock) or has_lost(view, party):
         return False
-    return any(view.height(arc) > deal.open_by + deal.delta for arc in deal.entering[party])
+    are_taking = all(is_taken(view, at, hashkey, arc) for arc in view.deal.entering[party])
+    return has_missed(view, party, signed) or not are_taking
 
 
 def due_publishes(view: View, party: int, is_ready: bool) -> Iterator[tuple[int, Call]]:

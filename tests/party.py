@@ -21,6 +21,10 @@ from texts import deal, signed, stored
 sys.path[1:1] = [str(Path(HERE).parent), str(Path(HERE).parent / "python")]
 from model.agreeing import MOST_SHORT  # noqa: E402
 from model.commands import answer  # noqa: E402
+from model.hashes import Hashkey, extended, secret_of  # noqa: E402
+from model.ledger import UNLOCK, Call  # noqa: E402
+from model.offer import STATED, header_of  # noqa: E402
+from model.texts import call_words  # noqa: E402
 from model.wallet import MOST_ASKED  # noqa: E402
 from swap_party import Transcript  # noqa: E402
 
@@ -124,9 +128,12 @@ def takes_the_longest_header(program: Program) -> None:
     rows = [program.run(["keys", it["name"]], f"seed {seed}\n{plain}".encode()).out.decode() for it in offer["parties"]]
     header = program.run(["deal"], (plain + "".join(rows)).encode()).out
     must(28_000 < len(header) < 32_768, f"the longest header: {len(header)}")
-    for more, wanted in (0, ""), (1, "swap: refused: OverLimit 1 header 65537\n"):
+    must(program.run(["terms", offer["parties"][0]["name"]], header).status == 0, "the longest header isn't taken")
+    limit = "swap: refused: OverLimit 1 header 65537\n"
+    for more, wanted in (0, "swap: refused: BadLine 1\n"), (1, limit):
         found = program.run(["terms", offer["parties"][0]["name"]], b" " * (65_536 + more - len(header) + 1) + header)
-        must(found.err.decode() == wanted and (found.status == 0) == (not wanted), f"{more}: {found}")
+        must((found.out, found.err.decode()) == (b"", wanted), f"{more}: {found}")
+    for more, wanted in (0, ""), (1, limit):
         found = program.run(["deal"], b" " * (65_536 + more - len(plain) + 1) + (plain + "".join(rows)).encode())
         must(found.err.decode() == wanted and (found.out == header) == (not wanted), f"{more}: {found}")
     for size, told in (1_000_000, b"refused: OverLimit 2 header 1000000"), (1_048_576 - 71, b"refused: OverLimit 2 header 1048505"), (1_048_576, b"too long"):
@@ -141,6 +148,12 @@ def takes_the_most_context(program: Program) -> None:
         must(found.err == wanted and found.out.count(b"about 0 x\n") == (0 if wanted else count), f"{count}: {found}")
     found = program.run(["terms", "alice"], (header + "about 0 x\n" * 1024 + "abouts 0 x\n").encode())
     must(found == (3, b"", b"swap: refused: BadLine 1026\n"), f"a further line of another word: {found}")
+    # (a further one that is no line of context has the same reason in both)
+    said = header + "about 0 x\n" * 1024 + "about 9\n"
+    found = program.run(["terms", "alice"], said.encode())
+    must(found == (3, b"", b"swap: refused: OverLimit 1026 about 1025\n"), f"{found}")
+    found = program.run(["next", "alice"], f"seed {'5e' * 32}\nagreed {'5e' * 32}\n{said}end\n".encode())
+    must(found == (3, b"", b"swap: refused: OverLimit 1028 about 1025\n"), f"{found}")
 
 
 # ---- enemies on one's ledgers
@@ -179,15 +192,61 @@ def isnt_flooded_by_many_calls(program: Program) -> None:
 
 
 def bounds_its_own_calls(program: Program) -> None:
-    """Her own calls are those of a wallet: beyond 32 on a ledger, and 20,000 ticks, an entry is
-    bad."""
+    """What she was refused doesn't count, however often; of her other calls an entry beyond 32 on a
+    ledger is bad. Ticks are one, in however many lines."""
     text = stored("alice.asked")
     unpublished = text.replace("c 0 publish", "c 1 publish").replace("f421 = accepted", "f421 = NotParty", 1)
-    for count, warned in (32, ""), (33, "bad 0 32 NoContract SenderFull\n"):
-        must_answer(program, flooded("c 0 claim = NoContract", count, unpublished, 0), warned + "landing 0\n" + ALICE, int(bool(warned)))
-    for count, warned in (20_000, ""), (20_001, "bad 0 20001 accepted ClockFull\n"):
+    unlock = "c 0 unlock 0 <secret> 0 <alice> = NoContract"
+    for refused in "c 0 claim = NoContract", "c 0 refund = NoContract", "c 0 publish 1 = NoFunds 7", unlock:
+        for count in 33, 300:
+            must_answer(program, flooded(refused, count, unpublished, 0), ALICE + "landing 0 by 10 until 30\n")
+    for count, warned in (32, ""), (33, "bad 0 32 NoFunds SenderFull\n"):
+        found = flooded("c 0 transfer 1 1000000000000 = NoFunds 100", count, unpublished, 0)
+        must_answer(program, found, warned.replace("NoFunds", "NoFunds 100") + ALICE + "landing 0 by 10 until 30\n", int(bool(warned)))
+    for count in 20_000, 20_001:
         ticked = text.replace("ledger 0 2", f"ledger 0 {count + 1}").replace("t 3\n", "t 1\n" * count)
-        must_answer(program, ticked, warned + ALICE + "call 0 0 by 70 refund\n", int(bool(warned)))
+        must_answer(program, ticked, ALICE + "call 0 0 by 70 refund\n")
+
+
+# ---- a follower that is late
+
+
+def paid_twice() -> Offer:
+    """Two leaders pay and are paid by v, who leads nothing and is paid on two arcs."""
+    ends = [("v", "w"), ("v", "l"), ("w", "v"), ("l", "v")]
+    return {"swap": 1, "mode": "hashkeys", "start": 10, "delta": 10, "bound": 2, "parties": [{"name": it} for it in "vwl"],
+            "arcs": [{"from": at, "to": to, "amount": 1} for at, to in ends], "leaders": [{"party": it} for it in "wl"]}  # fmt: skip
+
+
+def withholds_of_a_follower(program: Program) -> None:
+    """Nothing that leaves v is opened whole: a hashkey that one of its arcs would refuse is presented
+    on none; where both take it, it is answered on both."""
+    offer, seeds = paid_twice(), {"v": "01" * 32, "w": "02" * 32, "l": "03" * 32}
+    line = json.dumps(offer) + "\n"
+    rows = [program.run(["keys", name], f"seed {seed}\n{line}".encode()).out.decode() for name, seed in seeds.items()]
+    header = program.run(["deal"], (line + "".join(rows)).encode()).out.decode()
+    dealt = header_of(header.strip().encode(), 1, STATED).deal
+    publish = "publish 10 10 2 0 1 " + " ".join(it.hex() for it in dealt.hashlocks)
+    key = extended(dealt.id, Hashkey(0, secret_of(bytes.fromhex(seeds["w"])), (), ()), 1, bytes.fromhex(seeds["w"]))
+    unlock = call_words(Call(UNLOCK, key))
+
+    def asked(heights: tuple[int, int], note: str = "", more: str = "") -> str:
+        """The lines of v, whose ledgers 2 and 3 stand at such heights, and whose arc to w is opened
+        for lock 0."""
+        told = [f"ledger 0 2\nc 0 {publish} = accepted\nc 1 {unlock} = accepted\n", f"ledger 1 1\nc 0 {publish} = accepted\n"]
+        told += [f"ledger {arc} 2\nc {payer} {publish} = accepted\nt {height}\n" for arc, payer, height in zip((2, 3), (1, 2), heights)]
+        digest = sha256(header.encode()).hexdigest()
+        return f"seed {seeds['v']}\nagreed {digest}\n{note}{header}{''.join(told)}{more}end\n"
+
+    kept = program.run(["next", "v"], asked((1, 1)).encode()).out.decode()
+    must(kept.startswith("keep 0 by ") and kept.count("\n") == 1, f"a hashkey for both: {kept}")
+    last = int(kept.split(" ")[5])
+    cases = [((last, last), "", 2), ((last, last + 1), "", 0), ((75, 75), "", 0), ((1, 1), f"now 3 {last + 1}\n", 0), ((1, 1), f"margin 2 {last}\n", 0)]
+    for heights, more, count in cases:
+        for note in "", kept:
+            found = program.run(["next", "v"], asked(heights, note, more).encode()).out.decode()
+            lines = [it for it in found.splitlines() if it.startswith("keep" if not note else "call") and (not note or " unlock " in it)]
+            must(len(lines) == (min(count, 1) if not note else count), f"{heights} {more} {note[:6]}: {found}")
 
 
 # ---- moments of runs
@@ -246,9 +305,18 @@ def notes_of(chance: random.Random, me: int, seen: list[list[str]]) -> list[str]
                 kept.setdefault(words[3], f"keep {words[3]} {heights} {' '.join(words[4:7])}")
             if words[:3] == ["c", str(me), "publish"] and chance.random() < 0.7:
                 sent.append(f"sent {arc}")
-    notes = [*kept.values(), *sent] * chance.randint(1, 2)
+    never = [f"never {it.split(' ')[1]}" for it in sent if chance.random() < 0.2]
+    notes = [*kept.values(), *sent, *never] * chance.randint(1, 2)
     chance.shuffle(notes)
     return notes
+
+
+def heights_of(chance: random.Random, arcs: int) -> list[str]:
+    """Tips of chains, and in how many heights calls land there."""
+    found = [f"now {arc} {chance.randint(0, 80)}" for arc in range(arcs) if chance.random() < 0.2]
+    found += [f"margin {arc} {chance.randint(0, 15)}" for arc in range(arcs) if chance.random() < 0.2]
+    chance.shuffle(found)
+    return found
 
 
 def moment(chance: random.Random, header: Offer, ledgers: list[list[str]], me: int) -> tuple[list[str], list[str], list[str]]:
@@ -261,7 +329,7 @@ def moment(chance: random.Random, header: Offer, ledgers: list[list[str]], me: i
     told = [troubled(chance, entries, me) for entries in told]
     context = [f"about {chance.randrange(len(told))} ledger {it}" for it in range(chance.randint(0, 2))]
     behind = [line for arc, entries in enumerate(told) if entries or chance.random() < 0.5 for line in (f"ledger {arc} {len(entries)}", *entries)]
-    return notes, context, behind
+    return notes, context, behind + heights_of(chance, len(told))
 
 
 def asked_at(chance: random.Random, header: Offer, line: str, ledgers: list[list[str]], me: int) -> str:
@@ -281,11 +349,14 @@ def answers_at_any_moment(job: str, program: Program) -> None:
         must(found.status in (0, 1) and found.out, f"{found.err!r}: {text[:2000]}")
 
 
-ENEMIES = isnt_flooded_by_long_unlocks, isnt_flooded_by_many_calls, bounds_its_own_calls
+ENEMIES = isnt_flooded_by_long_unlocks, isnt_flooded_by_many_calls, bounds_its_own_calls, withholds_of_a_follower
 LIMITS = (
     takes_its_words, takes_the_longest_header, takes_the_most_context, reads_the_most, reads_short_inputs, is_cut_short, reads_pieces,
     writes_a_prefix,
 )  # fmt: skip
+
+
+TABLES = tuple(f"party/{name}" for name in ("keys", "deal", "terms", "answers", "landing", "notes", "enemies", "refusals"))
 
 
 def tests() -> Tests:
@@ -293,7 +364,7 @@ def tests() -> Tests:
         yield f"party: the deal of rows of {job}", partial(is_the_made_deal, job)
     for job in "examples/three_way.job", "examples/two_payments.job", "two_leaders", "tests/deals/plain_timelocks.made":
         yield f"party: at any moment of {job}", partial(answers_at_any_moment, job)
-    for name in "party/keys", "party/deal", "party/terms", "party/answers", "party/enemies", "party/refusals":
+    for name in TABLES:
         yield from tests_in(name)
     for it in (*LIMITS, *ENEMIES):
         yield f"party: {it.__name__}", partial(it)

@@ -1,7 +1,7 @@
 /* The wallet of one party of a swap, as pure functions over bytes: the party's row for a deal, the
    deal of all rows, what the party agrees to, what is due for it, and whether a header's deal is
-   accepted. docs/FORMATS.md tells the texts line by line, and docs/using/wallet.md what a wallet
-   does with them.
+   accepted; and beside it what the program `swap` answers. docs/FORMATS.md tells the texts line by
+   line, and docs/using/wallet.md what a wallet does with them.
 
    Nothing is kept between calls, there is no handle, and nothing is to be freed. Each call reads
    what it is given, puts a text into `out`, and answers its status with the text's length.
@@ -34,12 +34,13 @@
 extern "C" {
 #endif
 
-/* The version of this header. The first number changes where a program has to be compiled again. */
+/* The version of this header, which isn't the release's: VERSION has that. The first number grows
+   where a program has to be compiled again, the second where something is added. */
 #define SWAP_PARTY_VERSION_MAJOR 1
-#define SWAP_PARTY_VERSION_MINOR 1
-#define SWAP_PARTY_VERSION "1.1"
+#define SWAP_PARTY_VERSION_MINOR 2
+#define SWAP_PARTY_VERSION "1.2"
 
-#define SWAP_PARTY_TEXT_LIMIT 150994944 /* the most bytes of a text for next */
+#define SWAP_PARTY_TEXT_LIMIT 566231040 /* the most bytes of a text for next */
 #define SWAP_PARTY_SHORT_LIMIT 1048576  /* the most bytes of a text for keys, deal, terms, check */
 #define SWAP_PARTY_NAME_LIMIT 16       /* the most bytes of a party's name in a header */
 #define SWAP_PARTY_SEED_SIZE 32        /* the bytes of a seed */
@@ -53,7 +54,8 @@ enum {
     SWAP_PARTY_WARNED = 2,    /* `out` begins with the answer, which has a `bad` or an `unkept` line */
     SWAP_PARTY_REFUSED = 3,   /* `out` begins with the line of the reason: swap: refused: .. */
     SWAP_PARTY_NO_MEMORY = 6, /* malloc answered null; `out` stays as it was */
-    SWAP_PARTY_TOO_LONG = 7   /* the text is longer than its limit; `out` stays as it was */
+    SWAP_PARTY_TOO_LONG = 7,  /* the text is longer than its limit; `out` stays as it was */
+    SWAP_PARTY_WRONG_WORDS = 8 /* the words ask for nothing that is answered; `out` stays as it was */
 };
 
 /* What swap_party_limit is asked for. */
@@ -106,7 +108,17 @@ swap_party_said swap_party_next(const uint8_t *text, size_t text_length,
 swap_party_said swap_party_check(const uint8_t *header, size_t header_length,
                                  uint8_t *out, size_t capacity);
 
-/* The version of the library that was linked, a space, and `proved` or `unproved`: "1.1 proved".
+/* What the program `swap` answers to words, which stand after its name, and to its standard input.
+   `words` has a line feed behind each word: "run\n--transcript\n". The status is DONE where the
+   program ends with 0, WARNED with 1 (the text was written whole, and something was found), REFUSED
+   with 3, NO_MEMORY with 6, TOO_LONG with 7. WRONG_WORDS comes where it ends with 2, and where the
+   words ask for a race, since no thread is started. The same words and input have the same answer.
+   A job for `swap` holds everybody's seeds, so never put real ones into it. */
+swap_party_said swap_party_answer(const uint8_t *words, size_t words_length,
+                                  const uint8_t *input, size_t input_length,
+                                  uint8_t *out, size_t capacity);
+
+/* The version of the library that was linked, a space, and `proved` or `unproved`: "1.2 proved".
    An unproved build is compiled from the same sources, without their proofs. */
 const char *swap_party_version(void);
 

@@ -1,7 +1,7 @@
 -- Where every arc next to a party is finished, nothing that lands without calls of the party makes
 -- anything useful.
 use Rattle.std.proofs.Common.{◌≡◌, ◌⊎◌, ℕ, ◌≤◌, ◌<◌, nat_lt, nat_le, Bool, true, false, not, ◌&&◌, ◌||◌, List, [], ◌∷◌, length, Option, Some, None, is_some}
-use Rattle.std.proofs.Common.{is_none, refl, sym, ap, ap₂, ◌∙◌, subst, inl, inr, arith, leb-true, ltb-true, cond}
+use Rattle.std.proofs.Common.{is_none, refl, sym, ap, ap₂, ◌∙◌, subst, inl, inr, arith, leb-true, ltb-true, eq-eqb}
 use Rattle.std.specs.List.{list_all}
 use Rattle.std.proofs.lemmas.Bool.{false≢true}
 use Rattle.swap_base.specs.Lists.{or_else, first_given_answer, IsElement, IsMoment}
@@ -10,9 +10,9 @@ use Rattle.swap_base.proofs.Lists.{in_flat_map, in_from_moment, in_range}
 use Rattle.time_bounds.specs.Times as times
 use Rattle.swap_digraph.specs.declared.deal.Deal.{Deal}
 use Rattle.swap_digraph.specs.Graph.{leaving, entering}
-use Rattle.swap_digraph.specs.Deal.{locks, leads, party, counterparty}
+use Rattle.swap_digraph.specs.Deal.{locks, party, counterparty}
 use Rattle.hashkey_path.specs.declared.hashkey.Hashkey.{Hashkey}
-use Rattle.escrow_core.specs.Terms.{stated_terms}
+use Rattle.escrow_core.specs.Terms.{stated_terms, last_unlock}
 use Rattle.ledger_core.specs.declared.entry.Call.{Call}
 use Rattle.ledger_core.specs.declared.entry.Call.TheVariants.{Publish, Unlock, Claim, Refund}
 use Rattle.ledger_core.specs.declared.entry.Entry.{Entry}
@@ -23,20 +23,20 @@ use Rattle.ledger_core.specs.Book.{Histories, history, IsLegalBook}
 use Rattle.ledger_core.proofs.History.{Done, published_done, opened_done, claimed_done, refunded_done, of_publish, of_unlock, of_claim, of_refund}
 use Rattle.ledger_core.proofs.History.{published-past, opened-now, is_some-of, not-true-of}
 use Rattle.swap_rules.specs.Accepted.{IsAccepted}
-use Rattle.swap_rules.specs.Party.{is_arc_correct, publication_height, is_good, is_correct, is_ready, is_triggered, has_expired, leads_one, pick_call, key_without_party}
-use Rattle.swap_rules.specs.Party.{first_seen_key}
+use Rattle.swap_rules.specs.Party.{is_arc_correct, publication_height, is_good, is_correct, is_ready, is_triggered, has_expired, leads_one, pick_call}
 use Rattle.swap_rules.specs.Conduct.{is_publish}
-use Rattle.swap_rules.specs.Due.{Wallet, Action, has_called, unlocks_lock, is_claiming, is_refunding, is_due_publish, seen_key, extended, due_key, presented}
+use Rattle.swap_rules.specs.Due.{Wallet, Action, has_called, unlocks_lock, is_claiming, is_refunding, is_due_publish}
 use Rattle.swap_rules.specs.Due.{is_due_claim, is_due_refund, when_due, due_claims, due_refunds}
 use Rattle.swap_rules.specs.Machine.{Begins, Knows}
-use Rattle.swap_rules.specs.Useful.{opens_in_time, useful_publishes, useful_unlocks, useful}
-use Rattle.swap_rules.proofs.Growth.{opened-more}
+use Rattle.swap_rules.specs.Useful.{opens_in_time, accepts, takes, useful_publishes, useful_unlocks, useful}
+use Rattle.swap_rules.proofs.Useful.{higher_is_less}
+use Rattle.swap_rules.proofs.Growth.{opened-more, ready_good}
 use Rattle.swap_rules.proofs.Machines.{own_known}
 use Rattle.swap_rules.proofs.Prefixes.{from_flat_map, split, begins_height, list_any-more, in_any, none_called}
 use Rattle.swap_rules.proofs.Words.{and_three, and_five, enters, leaves, pick_call-act}
 use Rattle.answer_rules.specs.Finished.{greatest_expiry, is_shut, is_arc_finished, are_finished, ContinuesWithoutParty}
 use Rattle.answer_rules.specs.Laws.{FinishedStays}
-use Rattle.answer_rules.proofs.UsefulKinds.{in_when, to_when, Kind, InPublishes, InUnlocks, InClaims, InRefunds, kind, is_useful, unlocked, in_unlocks, free_before}
+use Rattle.answer_rules.proofs.UsefulKinds.{in_when, to_when, Kind, InPublishes, InUnlocks, InClaims, InRefunds, kind, is_useful, unlocked}
 
 first_same : {A B : Type 0} (f g : A → Option B) (xs : List A) → ((x : A) → IsElement x xs → f x ≡ g x) → first_given_answer f xs ≡ first_given_answer g xs
 first_same f g [] h = refl
@@ -165,7 +165,7 @@ module _ (d : Deal) (v a : ℕ) (k h : List Entry) (lk : IsLegal d a k) (lh : Is
           absurd (some_none (published k) e (ap is_some (published-past k done.0.past done.0.now u.contract m u.published)))
 
 -- The arcs of a party.
-module _ (d : Deal) (v : ℕ) (w : Wallet) (kept : ℕ → Option Hashkey) (k h : Histories) (acc : IsAccepted d) (lk : IsLegalBook d k) (lh : IsLegalBook d h)
+module _ (d : Deal) (v : ℕ) (at : ℕ → ℕ) (w : Wallet) (kept : ℕ → Option Hashkey) (k h : Histories) (acc : IsAccepted d) (lk : IsLegalBook d k) (lh : IsLegalBook d h)
     (fin : are_finished d k v ≡ true) (on : ContinuesWithoutParty v k h) where
   abbrev fins : (list_all (is_arc_finished d k) (leaving d.graph v) ≡ true) × (list_all (is_arc_finished d k) (entering d.graph v) ≡ true)
   fins = and_parts (list_all (is_arc_finished d k) (leaving d.graph v)) (list_all (is_arc_finished d k) (entering d.graph v)) fin
@@ -200,34 +200,6 @@ module _ (d : Deal) (v : ℕ) (w : Wallet) (kept : ℕ → Option Hashkey) (k h 
 
   settled_there : (a : ℕ) → a < length d.graph.arcs → is_some (settled (history k a)) ≡ true → is_some (published (history k a)) ≡ true
   settled_there a l e = let s = is_some-of (settled (history k a)) e in settled_published d a (history k a) s.0 (legal_k a l) s.1
-
-  -- the hashkeys that v sees are the same
-  still_closed : (a i : ℕ) → Begins (history k a) (history h a) → (o : Option Opening) → opened (history k a) i ≡ o → opened (history h a) i ≡ None
-      → opened (history k a) i ≡ None
-  still_closed a i b None q e = q
-  still_closed a i b (Some o) q e = absurd (false≢true (ap is_some (sym e) ∙ ap is_some (opened-more (history k a) (history h a) i o b q)))
-
-  opened_why : (a i : ℕ) → IsElement a (leaving d.graph v) → Why a → opened (history h a) i ≡ opened (history k a) i
-  opened_why a i j (IsSettled e) =
-      let of_v = leaves d v a j in settled_same d v a (history k a) (history h a) (legal_k a of_v.0) (legal_h a of_v.0) (on a) i e
-  opened_why a i j (IsShut none high) =
-      let of_v = leaves d v a j in
-      let n = unpublished d v a (history k a) (history h a) (legal_k a of_v.0) (legal_h a of_v.0) (on a) of_v.1 none in
-      let new = unopened d v a (history k a) (history h a) (legal_k a of_v.0) (legal_h a of_v.0) (on a) i n in
-      let b = begins d v a (history k a) (history h a) (legal_k a of_v.0) (legal_h a of_v.0) (on a) in
-      new ∙ sym (still_closed a i b (opened (history k a) i) refl new)
-
-  opened_same : (a i : ℕ) → IsElement a (leaving d.graph v) → opened (history h a) i ≡ opened (history k a) i
-  opened_same a i j = opened_why a i j (why_leaving a j)
-
-  seen_same : (i : ℕ) → first_seen_key d h v i ≡ first_seen_key d k v i
-  seen_same i =
-      first_same (λ a. key_without_party v (opened (history h a) i)) (λ a. key_without_party v (opened (history k a) i)) (leaving d.graph v)
-      (λ a j. ap (key_without_party v) (opened_same a i j))
-
-  due_same : (i : ℕ) → due_key d v w (kept i) h i ≡ due_key d v w (kept i) k i
-  unfolding due_key seen_key
-  due_same i = ap (λ o. or_else (kept i) (cond (leads d v i) (Some (w.first i)) (extended w o))) (seen_same i)
 
   -- v was ready, if it is
   abbrev good_by : ℕ → Option Publication → Bool
@@ -290,21 +262,28 @@ module _ (d : Deal) (v : ℕ) (w : Wallet) (kept : ℕ → Option Hashkey) (k h 
       (and_parts (leads_one d v || is_ready d h v) (not (has_called v is_publish (history h a))) due).1 in
       false≢true (sym uncalled ∙ later)
 
-  no_publish_why : (a : ℕ) → IsElement a (leaving d.graph v) → is_due_publish d v h a ≡ true → opens_in_time d h a ≡ true → Why a → ⊥
-  no_publish_why a j due in_time (IsSettled e) = settled_unpublished a j due e
-  no_publish_why a j due in_time (IsShut none high) =
+  -- a publish on an arc that is shut was due before
+  publish_why : (a : ℕ) → IsElement a (leaving d.graph v) → is_due_publish d v h a ≡ true → Why a → is_due_publish d v k a ≡ true
+  unfolding is_due_publish
+  publish_why a j due (IsSettled e) = absurd (settled_unpublished a j due e)
+  publish_why a j due (IsShut none high) =
       let of_v = leaves d v a j in
-      let l = leb-true (height (history h a)) (times.opening_deadline d.start d.delta d.bound) in_time in
-      let up = higher d v a (history k a) (history h a) (legal_k a of_v.0) (legal_h a of_v.0) (on a) in
-      omega (arith, l, up, high)
+      let p = and_parts (leads_one d v || is_ready d h v) (not (has_called v is_publish (history h a))) due in
+      and_both (leads_one d v || is_ready d k v) (not (has_called v is_publish (history k a))) (either (leads_one d v) p.0)
+      (uncalled_before d v a (history k a) (history h a) (legal_k a of_v.0) (legal_h a of_v.0) (on a) is_publish p.1)
+    where
+      either : (b : Bool) → (b || is_ready d h v) ≡ true → (b || is_ready d k v) ≡ true
+      either true e = refl
+      either false e = ready_before e
 
-  no_publish : (x : Action) → IsElement x (useful_publishes d v h) → ⊥
-  no_publish x i =
-      let f = from_flat_map (λ a. when_due (is_due_publish d v h a && opens_in_time d h a) a (Publish (stated_terms d a))) (leaving d.graph v) x i in
-      let tests =
-      and_parts (is_due_publish d v h f.0) (opens_in_time d h f.0)
-      (in_when (is_due_publish d v h f.0 && opens_in_time d h f.0) f.0 (Publish (stated_terms d f.0)) x f.2).0 in
-      no_publish_why f.0 f.1 tests.0 tests.1 (why_leaving f.0 f.1)
+  publish_before : (x : Action) → IsElement x (useful_publishes d v at h) → IsElement x (useful_publishes d v at k)
+  publish_before x i =
+      let test = λ (b : Histories) (c : ℕ). is_due_publish d v b c && opens_in_time d at c in
+      let f = from_flat_map (λ c. when_due (test h c) c (Publish (stated_terms d c))) (leaving d.graph v) x i in
+      let p = and_parts (is_due_publish d v h f.0) (opens_in_time d at f.0) (in_when (test h f.0) f.0 (Publish (stated_terms d f.0)) x f.2).0 in
+      in_flat_map (λ c. when_due (test k c) c (Publish (stated_terms d c))) (leaving d.graph v) f.0 x f.1
+      (to_when (test h f.0) (test k f.0) f.0 (Publish (stated_terms d f.0)) x
+      (and_both (is_due_publish d v k f.0) (opens_in_time d at f.0) (publish_why f.0 f.1 p.0 (why_leaving f.0 f.1)) p.1) f.2)
 
   no_refund_by : (a : ℕ) → IsElement a (leaving d.graph v) → is_some (published (history h a)) ≡ true → is_none (settled (history h a)) ≡ true → Why a → ⊥
   no_refund_by a j there free (IsShut none high) =
@@ -361,36 +340,47 @@ module _ (d : Deal) (v : ℕ) (w : Wallet) (kept : ℕ → Option Hashkey) (k h 
       in_flat_map (λ a. when_due (is_due_claim d v k a) a Claim) (entering d.graph v) f.0 x f.1
       (to_when (is_due_claim d v h f.0) (is_due_claim d v k f.0) f.0 Claim x test f.2)
 
-  heights : (c : ℕ) → height (history k c) ≤ height (history h c)
-  heights c = let o = on c in begins_height (history k c) (history h c) (o.rest, o.whole)
+  -- an arc that is finished takes no unlock that v hasn't called
+  called_open : (a i : ℕ) → IsElement a (entering d.graph v) → (o : Option Opening) → opened (history h a) i ≡ o → is_some o ≡ true
+      → has_called v (unlocks_lock i) (history h a) ≡ true
+  called_open a i j None e t = absurd (false≢true t)
+  called_open a i j (Some o) e t =
+      let of_v = enters d v a j in
+      let done = opened_done d a (history h a) i o (legal_h a of_v.0) e in
+      let u = of_unlock d a done.0.past done.0.act.by o.key done.0.clear in
+      let made = pick_call-act d a done.0.past done.0.now (Unlock o.key) v done.0.act (u.counterparty ∙ of_v.1) in
+      list_any-in (λ y. unlocks_lock i (pick_call v y)) (history h a) done.0.now (ap (unlocks_lock i) made ∙ eq-eqb o.key.lock i done.1)
+      (subst (IsElement done.0.now) (sym done.0.stands.1) (in_from_moment done.0.past done.0.now done.0.stands.0))
 
-  called_in : (i c : ℕ) (y : Entry) → unlocks_lock i (pick_call v y) ≡ true → IsElement y (history k c) ⊎ IsElement y (Knows.rest (on c))
-      → has_called v (unlocks_lock i) (history k c) ≡ true
-  called_in i c y t (inl l) = list_any-in (λ z. unlocks_lock i (pick_call v z)) (history k c) y t l
-  called_in i c y t (inr l) =
-      let o = on c in absurd (false≢true (ap (unlocks_lock i) (sym (none_called v y (o.others y l))) ∙ t))
+  no_unlock_why : (a i : ℕ) (key : Hashkey) → IsElement a (entering d.graph v) → is_ready d h v ≡ true
+      → not (has_called v (unlocks_lock i) (history h a)) ≡ true → takes d at h i (Some key) a ≡ true → Why a → ⊥
+  no_unlock_why a i key j ready none taken (IsShut empty high) =
+      late a (enters d v a j).0 (published (history h a)) refl (ready_good d h v a ready j) empty high
+  no_unlock_why a i key j ready none taken (IsSettled e) = go (is_open (history h a) i) refl
+    where
+      go : (b : Bool) → is_open (history h a) i ≡ b → ⊥
+      go true q =
+          false≢true (sym (not-true-of (has_called v (unlocks_lock i) (history h a)) none) ∙ called_open a i j (opened (history h a) i) refl q)
+      go false q =
+          let of_v = enters d v a j in
+          let s = is_some-of (settled (history k a)) e in
+          let later = settled_more d v a (history k a) (history h a) (legal_k a of_v.0) (legal_h a of_v.0) (on a) s.0 s.1 in
+          let open_for : accepts d at h (Some key) a ≡ true = ap (λ b. b || accepts d at h (Some key) a) (sym q) ∙ taken in
+          false≢true (sym (ap is_none later)
+          ∙ (and_parts (is_none (settled (history h a))) (nat_le (at a) (last_unlock d.mode (stated_terms d a) key)) open_for).0)
 
-  called_at : (i c : ℕ) → has_called v (unlocks_lock i) (history h c) ≡ true → has_called v (unlocks_lock i) (history k c) ≡ true
-  called_at i c e =
-      let j = in_any (λ y. unlocks_lock i (pick_call v y)) (history h c) e in
-      let o = on c in
-      called_in i c j.0 j.2 (from_append (history k c) o.rest j.0 (subst (IsElement j.0) o.whole j.1))
-
-  unlock_before : (x : Action) → IsElement x (useful_unlocks d v w kept h) → IsElement x (useful_unlocks d v w kept k)
-  unlock_before x i =
-      let u = unlocked d v w kept h x i in
-      let of_v = enters d v u.arc u.enters in
+  no_unlock : (x : Action) → IsElement x (useful_unlocks d v at w kept h) → ⊥
+  no_unlock x i =
+      let u = unlocked d v at w kept h x i in
       let may = and_parts (is_ready d h v) (not (has_called v (unlocks_lock u.lock) (history h u.arc))) u.may in
-      in_unlocks d v w kept k x u.lock u.arc u.within u.enters (free_before d v k h u.lock (called_at u.lock) heights u.free)
-      (and_both (is_ready d k v) (not (has_called v (unlocks_lock u.lock) (history k u.arc))) (ready_before may.0)
-      (uncalled_before d v u.arc (history k u.arc) (history h u.arc) (legal_k u.arc of_v.0) (legal_h u.arc of_v.0) (on u.arc) (unlocks_lock u.lock) may.1))
-      (subst (λ o. IsElement x (presented u.arc o)) (due_same u.lock) u.is)
+      no_unlock_why u.arc u.lock u.key u.enters may.0 may.1 (subst (λ o. takes d at h u.lock o u.arc ≡ true) u.due u.taken) (why_entering u.arc u.enters)
 
-  by_kind : (x : Action) → Kind d v w kept h x → IsElement x (useful d v w kept k)
-  by_kind x (InPublishes i) = absurd (no_publish x i)
-  by_kind x (InUnlocks i) = is_useful d v w kept k x (InUnlocks (unlock_before x i))
-  by_kind x (InClaims i) = is_useful d v w kept k x (InClaims (claim_before x i))
+  pub by_kind : (x : Action) → Kind d v at w kept h x → IsElement x (useful d v at w kept k)
+  by_kind x (InPublishes i) = is_useful d v at w kept k x (InPublishes (publish_before x i))
+  by_kind x (InUnlocks i) = absurd (no_unlock x i)
+  by_kind x (InClaims i) = is_useful d v at w kept k x (InClaims (claim_before x i))
   by_kind x (InRefunds i) = absurd (no_refund x i)
 
 pub finished_stays : FinishedStays
-finished_stays d v w kept k h x acc lk lh fin on i = by_kind d v w kept k h acc lk lh fin on x (kind d v w kept h x i)
+finished_stays d v at later w kept k h x acc lk lh fin on up i =
+    by_kind d v at w kept k h acc lk lh fin on x (kind d v at w kept h x (higher_is_less d v at later w kept h x up i))

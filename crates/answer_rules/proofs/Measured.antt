@@ -70,5 +70,5 @@ module _ (d : Deal) (v : ℕ) (w : Wallet) (kept : ℕ → Option Hashkey) (k : 
       let short : length key.path ≤ 1000000 = omega (arith, l) in
       ((enters d v a j).0, subst IsShort (sym e) short)
 
-  pub useful_is_short : (x : Action) → IsElement x (useful d v w kept k) → (x.arc < length d.graph.arcs) × IsShort x.call
-  useful_is_short x i = by_case x.arc x.call (case_of d v w kept k x (useful_is_due d v w kept k x i))
+  pub useful_is_short : (at : ℕ → ℕ) (x : Action) → IsElement x (useful d v at w kept k) → (x.arc < length d.graph.arcs) × IsShort x.call
+  useful_is_short at x i = by_case x.arc x.call (case_of d v w kept k x (useful_is_due d v at w kept k x i))

@@ -142,5 +142,5 @@ module _ (d : Deal) (v : ℕ) (w : Wallet) (kept : ℕ → Option Hashkey) (k : 
         subst (Has a) (sym e) (ByRule rules.Refund r.0 refl r.1 (asks a Refund r.0 r.1))
 
 pub useful_has_height : UsefulHasHeight
-useful_has_height d v w kept k x legal signs good i =
-    by_case d v w kept k legal signs good x.arc x.call (case_of d v w kept k x (useful_is_due d v w kept k x i))
+useful_has_height d v at w kept k x legal signs good i =
+    by_case d v w kept k legal signs good x.arc x.call (case_of d v w kept k x (useful_is_due d v at w kept k x i))

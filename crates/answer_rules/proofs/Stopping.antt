@@ -13,8 +13,7 @@ use Rattle.ledger_core.specs.declared.entry.Call.TheVariants.{Publish, Claim, Re
 use Rattle.ledger_core.specs.Book.{Histories, IsLegalBook}
 use Rattle.swap_rules.specs.Due.{Wallet, Action, due_arc_unlock, due_key, is_due_claim, is_due_publish, is_due_refund}
 use Rattle.swap_rules.specs.Due.{may_unlock, presented, when_due}
-use Rattle.swap_rules.specs.Walking.{is_withheld, pressing_unlocks}
-use Rattle.swap_rules.specs.Useful.{opens_in_time, useful}
+use Rattle.swap_rules.specs.Useful.{opens_in_time, takes, is_withheld, timely_unlock, pressing_unlocks, useful}
 use Rattle.swap_rules.proofs.Prefixes.{from_flat_map}
 use Rattle.answer_rules.specs.Stopped.{is_stopped_call, unlocks_unless_stopped, unstopped, useful_unless_stopped}
 use Rattle.answer_rules.specs.Laws.{AreGoodKeys, SignsItsLock}
@@ -48,27 +47,29 @@ module _ (stops : ℕ → Bool) where
   when_stays true a c e = ap (λ (b : Bool). cond (not b) (record { arc = a; call = c } ∷ []) []) e
   when_stays false a c e = refl
 
-module _ (stops : ℕ → Bool) (d : Deal) (v : ℕ) (w : Wallet) (kept : ℕ → Option Hashkey) (k : Histories) (legal : IsLegalBook d k)
+module _ (stops : ℕ → Bool) (d : Deal) (v : ℕ) (at : ℕ → ℕ) (w : Wallet) (kept : ℕ → Option Hashkey) (k : Histories) (legal : IsLegalBook d k)
     (signs : SignsItsLock w) (good : AreGoodKeys d v kept) where
   -- the unlocks for a lock are stopped with it
-  with_lock : (i : ℕ) (x : Action) → IsElement x (pressing_unlocks d v w kept k i) → is_stopped_call stops x.call ≡ stops i
+  with_lock : (i : ℕ) (x : Action) → IsElement x (pressing_unlocks d v at w kept k i) → is_stopped_call stops x.call ≡ stops i
   unfolding due_arc_unlock
   with_lock i x e =
-      let g = in_cond (is_withheld d v k i) (flat_map (due_arc_unlock d v w (kept i) k i) (entering d.graph v)) x e in
-      let h = from_flat_map (due_arc_unlock d v w (kept i) k i) (entering d.graph v) x g.1 in
-      let t = in_if (may_unlock d v k i h.0) (presented h.0 (due_key d v w (kept i) k i)) x h.2 in
+      let g =
+      in_cond (is_withheld d v at kept k i (due_key d v w (kept i) k i)) (flat_map (timely_unlock d v at w (kept i) k i) (entering d.graph v)) x e in
+      let h = from_flat_map (timely_unlock d v at w (kept i) k i) (entering d.graph v) x g.1 in
+      let u = in_if (takes d at k i (due_key d v w (kept i) k i) h.0) (due_arc_unlock d v w (kept i) k i h.0) x h.2 in
+      let t = in_if (may_unlock d v k i h.0) (presented h.0 (due_key d v w (kept i) k i)) x u.1 in
       let p = in_presented h.0 (due_key d v w (kept i) k i) x t.1 in
       ap (is_stopped_call stops) p.2 ∙ ap stops (due_lock d v w kept k i p.0 legal signs good (origin d v w kept k i p.0 p.1))
 
-  by_lock : (i : ℕ) → unstopped stops (pressing_unlocks d v w kept k i) ≡ unlocks_unless_stopped stops d v w kept k i
+  by_lock : (i : ℕ) → unstopped stops (pressing_unlocks d v at w kept k i) ≡ unlocks_unless_stopped stops d v at w kept k i
   by_lock i = go (stops i) refl
     where
-      go : (b : Bool) → stops i ≡ b → unstopped stops (pressing_unlocks d v w kept k i) ≡ cond b [] (pressing_unlocks d v w kept k i)
-      go true e = none_stays stops (pressing_unlocks d v w kept k i) (λ x j. with_lock i x j ∙ e)
-      go false e = all_stay stops (pressing_unlocks d v w kept k i) (λ x j. with_lock i x j ∙ e)
+      go : (b : Bool) → stops i ≡ b → unstopped stops (pressing_unlocks d v at w kept k i) ≡ cond b [] (pressing_unlocks d v at w kept k i)
+      go true e = none_stays stops (pressing_unlocks d v at w kept k i) (λ x j. with_lock i x j ∙ e)
+      go false e = all_stay stops (pressing_unlocks d v at w kept k i) (λ x j. with_lock i x j ∙ e)
 
   abbrev publish_on : ℕ → List Action
-  publish_on a = when_due (is_due_publish d v k a && opens_in_time d k a) a (Publish (stated_terms d a))
+  publish_on a = when_due (is_due_publish d v k a && opens_in_time d at a) a (Publish (stated_terms d a))
 
   abbrev claim_on : ℕ → List Action
   claim_on a = when_due (is_due_claim d v k a) a Claim
@@ -76,11 +77,11 @@ module _ (stops : ℕ → Bool) (d : Deal) (v : ℕ) (w : Wallet) (kept : ℕ �
   abbrev refund_on : ℕ → List Action
   refund_on a = when_due (is_due_refund d v k a) a Refund
 
-  pub unstopped_useful : useful_unless_stopped stops d v w kept k ≡ unstopped stops (useful d v w kept k)
+  pub unstopped_useful : useful_unless_stopped stops d v at w kept k ≡ unstopped stops (useful d v at w kept k)
   unfolding useful useful_unless_stopped
   unstopped_useful =
       let publishes = each_stays stops publish_on publish_on (leaving d.graph v) (λ a. when_stays stops _ a (Publish (stated_terms d a)) refl) in
-      let unlocks = each_stays stops (pressing_unlocks d v w kept k) (unlocks_unless_stopped stops d v w kept k) (locks d) by_lock in
+      let unlocks = each_stays stops (pressing_unlocks d v at w kept k) (unlocks_unless_stopped stops d v at w kept k) (locks d) by_lock in
       let claims = each_stays stops claim_on claim_on (entering d.graph v) (λ a. when_stays stops _ a Claim refl) in
       let refunds = each_stays stops refund_on refund_on (leaving d.graph v) (λ a. when_stays stops _ a Refund refl) in
       sym (joined stops _ _ _ _ (joined stops _ _ _ _ (joined stops _ _ _ _ publishes unlocks) claims) refunds)

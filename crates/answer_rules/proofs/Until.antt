@@ -160,8 +160,8 @@ module _ (d : Deal) (v : ℕ) (w : Wallet) (kept : ℕ → Option Hashkey) (k : 
       }
 
 pub unlocks_have_last : UnlocksHaveLast
-unlocks_have_last d v w kept k x key legal wallet signs good i is = (
+unlocks_have_last d v at w kept k x key legal wallet signs good i is = (
   last_unlock d.mode (stated_terms d x.arc) key,
   ap (last_accepted d x.arc) is,
-  by_case d v w kept k legal wallet signs good x.arc x.call key (case_of d v w kept k x (useful_is_due d v w kept k x i)) is,
+  by_case d v w kept k legal wallet signs good x.arc x.call key (case_of d v w kept k x (useful_is_due d v at w kept k x i)) is,
 )

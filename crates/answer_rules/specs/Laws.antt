@@ -1,4 +1,5 @@
--- The laws of what an answer goes by.
+-- The laws of what an answer goes by, where calls land at at a on the ledger of arc a. Each is over
+-- any legal book: what counts of what a wallet is told is one.
 use Rattle.std.specs.Prelude.{◌≡◌, ◌≢◌, ℕ, ◌+◌, ◌<◌, ◌≤◌, Bool, true, false, List, [], ◌++◌, length, set, Option, Some, None}
 use Rattle.swap_base.specs.Lists.{IsElement}
 use Rattle.swap_digraph.specs.declared.deal.Deal.{Deal}
@@ -32,8 +33,8 @@ pub record SignsItsLock (w : Wallet) : Type 0 where
 -- every useful call has its height
 abbrev pub UsefulHasHeight : Type 0
 UsefulHasHeight =
-    (d : Deal) (v : ℕ) (w : Wallet) (kept : ℕ → Option Hashkey) (k : Histories) (x : Action) → IsLegalBook d k → SignsItsLock w
-    → AreGoodKeys d v kept → IsElement x (useful d v w kept k) → HasHeight d k v kept x (last_on_time d k v x.arc x.call)
+    (d : Deal) (v : ℕ) (at : ℕ → ℕ) (w : Wallet) (kept : ℕ → Option Hashkey) (k : Histories) (x : Action) → IsLegalBook d k → SignsItsLock w
+    → AreGoodKeys d v kept → IsElement x (useful d v at w kept k) → HasHeight d k v kept x (last_on_time d k v x.arc x.call)
 
 -- The contract of an arc with this history can still be opened by v: it isn't settled, and v's
 -- entries don't fill its ledger; and what v published has the correct terms.
@@ -53,21 +54,22 @@ pub record IsLastHeight (d : Deal) (k : Histories) (v a : ℕ) (key : Hashkey) (
 -- every useful unlock has its last height
 abbrev pub UnlocksHaveLast : Type 0
 UnlocksHaveLast =
-    (d : Deal) (v : ℕ) (w : Wallet) (kept : ℕ → Option Hashkey) (k : Histories) (x : Action) (key : Hashkey) → IsLegalBook d k → IsWallet d v w
-    → SignsItsLock w → AreGoodKeys d v kept → IsElement x (useful d v w kept k) → x.call ≡ Unlock key
+    (d : Deal) (v : ℕ) (at : ℕ → ℕ) (w : Wallet) (kept : ℕ → Option Hashkey) (k : Histories) (x : Action) (key : Hashkey) → IsLegalBook d k → IsWallet d v w
+    → SignsItsLock w → AreGoodKeys d v kept → IsElement x (useful d v at w kept k) → x.call ≡ Unlock key
     → (last : ℕ) × (last_accepted d x.arc x.call ≡ Some last) × IsLastHeight d k v x.arc key last
 
 -- where every arc next to v is finished, nothing that lands later, without calls of v, makes
--- anything useful that wasn't
+-- anything useful that wasn't, though calls land higher then
 abbrev pub FinishedStays : Type 0
 FinishedStays =
-    (d : Deal) (v : ℕ) (w : Wallet) (kept : ℕ → Option Hashkey) (k h : Histories) (x : Action) → IsAccepted d → IsLegalBook d k → IsLegalBook d h
-    → are_finished d k v ≡ true → ContinuesWithoutParty v k h → IsElement x (useful d v w kept h) → IsElement x (useful d v w kept k)
+    (d : Deal) (v : ℕ) (at later : ℕ → ℕ) (w : Wallet) (kept : ℕ → Option Hashkey) (k h : Histories) (x : Action) → IsAccepted d → IsLegalBook d k
+    → IsLegalBook d h → are_finished d k v ≡ true → ContinuesWithoutParty v k h → ((c : ℕ) → at c ≤ later c)
+    → IsElement x (useful d v later w kept h) → IsElement x (useful d v at w kept k)
 
 -- where nothing useful is left, ticks of a ledger leave nothing as long as they don't pass an
--- expiry for which v waits
+-- expiry for which v waits, though calls land higher then
 abbrev pub TicksLeaveNothing : Type 0
 TicksLeaveNothing =
-    (d : Deal) (v : ℕ) (w : Wallet) (kept : ℕ → Option Hashkey) (stops : ℕ → Bool) (k : Histories) (a : ℕ) (more : List Entry)
-    → are_ticks more ≡ true → unstopped stops (useful d v w kept k) ≡ [] → StaysLow d v k a more
-    → unstopped stops (useful d v w kept (set k a (history k a ++ more))) ≡ []
+    (d : Deal) (v : ℕ) (at later : ℕ → ℕ) (w : Wallet) (kept : ℕ → Option Hashkey) (stops : ℕ → Bool) (k : Histories) (a : ℕ) (more : List Entry)
+    → are_ticks more ≡ true → ((c : ℕ) → at c ≤ later c) → unstopped stops (useful d v at w kept k) ≡ [] → StaysLow d v k a more
+    → unstopped stops (useful d v later w kept (set k a (history k a ++ more))) ≡ []

@@ -1,6 +1,7 @@
 -- What an audit says, by how its parts ended.
 use Rattle.std.proofs.Common.{◌≡◌, inl, inr, ℕ, List, Option, Result, Ok, Err, refl, ap, ◌∙◌, arith}
 use Rattle.std.proofs.KnownBytes.{Keeps-refl}
+use Rattle.swap_io.specs.Tape.{Tape}
 use Rattle.swap_base.specs.Fault.{◌>>=◌}
 use Rattle.command_input.specs.declared.refusal.Refusal.{Refusal}
 use Rattle.outcome_rules.specs.declared.report.Report.{Report}
@@ -24,7 +25,7 @@ use Rattle.audit_command.specs.Reading.{IsStoryRefusal, IsStory}
 use Rattle.audit_command.specs.Says.{HasAuditAnswer, HasAuditOutput, AuditSays}
 
 -- an answer to an input that was read
-answered : (P : List ℕ → Type 0) (a b : Option (List ℕ)) (n m : ℕ) (now : InputProgress) (output : Result Written Refusal)
+answered : (P : List ℕ → Type 0) (a b : Tape) (n m : ℕ) (now : InputProgress) (output : Result Written Refusal)
     (k : Ends P (desk a n fresh) (desk b m now)) → audit_output k.bytes ≡ output → HasAuditAnswer a b output
 answered P a b n m now output k e = record {
   input = k.bytes;
@@ -39,7 +40,7 @@ refused_input : (input : List ℕ) (refusal : Refusal) → input_story input ≡
 unfolding audit_output
 refused_input input refusal e = ap (λ (r : Result Story Refusal). r >>= written_story) e
 
-pub says_unread : (a b : Option (List ℕ)) (n m : ℕ) (now : InputProgress) (taken : Option (List ℕ)) (p : ℕ) (f : InputFault Refusal)
+pub says_unread : (a b : Tape) (n m : ℕ) (now : InputProgress) (taken : Option (List ℕ)) (p : ℕ) (f : InputFault Refusal)
     → HasStopped IsStoryRefusal (desk a n fresh) (desk b m now) f → AuditSays (streams a n taken p) (streams b m taken p) (unread f)
 says_unread a b n m now taken p (stopped.Refused refusal) k =
     (answered (λ input. IsStoryRefusal input refusal) a b n m now (Err refusal) k (refused_input k.bytes refusal k.told), Keeps-refl taken)
@@ -48,7 +49,7 @@ says_unread a b n m now taken p stopped.TooLong k = (too_long a b n m now k.1, K
 says_unread a b n m now taken p stopped.NoMemory k = inl (Keeps-refl taken, is_consumed a b n m now k.1)
 
 -- a story
-module _ (a b : Option (List ℕ)) (n m : ℕ) (now : InputProgress) (t : Story) (k : Ends (IsStory t) (desk a n fresh) (desk b m now)) where
+module _ (a b : Tape) (n m : ℕ) (now : InputProgress) (t : Story) (k : Ends (IsStory t) (desk a n fresh) (desk b m now)) where
   -- what is read is well formed
   pub is_formed : IsWellFormed t.job.deal t.book
   is_formed = (text_is_whole header_read k.bytes t k.told).whole.stated.formed

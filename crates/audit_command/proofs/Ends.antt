@@ -1,6 +1,7 @@
 -- How the reading of an input ended.
 use Rattle.std.proofs.Common.{◌+◌, ℕ, List, Option, Result, Ok, Err, ap, ◌∙◌, arith}
 use Rattle.std.specs.Prelude.{IfOk, IfErr}
+use Rattle.swap_io.specs.Tape.{Tape}
 use Rattle.swap_io.specs.Causes.{ConsumesAtMost, ConsumesSome}
 use Rattle.ledger_core.specs.declared.entry.Book.{Book}
 use Rattle.swap_job.specs.declared.job.Job.{Job}
@@ -17,13 +18,13 @@ use Rattle.audit_command.specs.Output.{by_text, to_refusal, input_story}
 use Rattle.audit_command.specs.Reading.{Concludes, IsStoryRefusal, IsBad, IsReadByReader, IsStory}
 
 -- a part was read
-pub is_consumed : (a b : Option (List ℕ)) (n m : ℕ) (now : InputProgress) → TookPart (desk a n fresh) (desk b m now) → ConsumesAtMost a b limit
+pub is_consumed : (a b : Tape) (n m : ℕ) (now : InputProgress) → TookPart (desk a n fresh) (desk b m now) → ConsumesAtMost a b limit
 is_consumed a b n m now t = (t.0.0, omega (arith, t.0.1.counted, t.1), t.0.1.consumed)
 
-pub too_long : (a b : Option (List ℕ)) (n m : ℕ) (now : InputProgress) → IsTooLong (desk a n fresh) (desk b m now) → ConsumesSome a b (limit + 1)
+pub too_long : (a b : Tape) (n m : ℕ) (now : InputProgress) → IsTooLong (desk a n fresh) (desk b m now) → ConsumesSome a b (limit + 1)
 too_long a b n m now t = (t.0.0, omega (arith, t.0.1.counted, t.1), t.0.1.consumed)
 
-pub all_consumed : (P : List ℕ → Type 0) (a b : Option (List ℕ)) (n m : ℕ) (now : InputProgress) → Ends P (desk a n fresh) (desk b m now) → ConsumesAtMost a b limit
+pub all_consumed : (P : List ℕ → Type 0) (a b : Tape) (n m : ℕ) (now : InputProgress) → Ends P (desk a n fresh) (desk b m now) → ConsumesAtMost a b limit
 all_consumed P a b n m now k = (k.bytes, omega (arith, k.stands.took.counted, k.stands.fits.within), k.stands.took.consumed)
 
 -- a reason as it is told

@@ -2,6 +2,7 @@
 use Rattle.std.proofs.Common.{◌≡◌, ◌==◌, ℕ, Bool, true, false, not, cond, IsTrue, List, [], ◌∷◌, ◌++◌, Option, Err, refl, sym, ap, ◌∙◌, subst}
 use Rattle.std.proofs.Common.{append_assoc}
 use Rattle.std.proofs.lemmas.Bool.{and_parts}
+use Rattle.swap_io.specs.Tape.{Tape}
 use Rattle.swap_base.specs.declared.fault.Fault.{Fault}
 use Rattle.swap_base.specs.declared.fault.Fault.TheVariants as fault
 use Rattle.swap_io.specs.Lines.{lacks_feed}
@@ -44,7 +45,7 @@ pub record Led (first now : Desk) (p : Progress) : Type 0 where
   pub open_yet : now.at.over ≡ false
   pub leads : (rest : List ℕ) → transcript_read header_read (bytes ++ rest) ≡ parts_read header_read p (separated_parts 10 (now.at.reading.kept ++ rest))
 
-led_fresh : (left : Option (List ℕ)) (n : ℕ) (p : Progress) → p ≡ no_lines → Led (desk left n fresh) (desk left n fresh) p
+led_fresh : (left : Tape) (n : ℕ) (p : Progress) → p ≡ no_lines → Led (desk left n fresh) (desk left n fresh) p
 unfolding transcript_read
 led_fresh left n p q = record {
   bytes = [];
@@ -53,7 +54,7 @@ led_fresh left n p q = record {
   leads = λ rest. sym (ap (λ (x : Progress). parts_read header_read x (separated_parts 10 rest)) q);
 }
 
-pub led_first : (left : Option (List ℕ)) (n : ℕ) (s : InputProgress) (p : Progress) → s ≡ fresh → p ≡ no_lines → Led (desk left n fresh) (desk left n s) p
+pub led_first : (left : Tape) (n : ℕ) (s : InputProgress) (p : Progress) → s ≡ fresh → p ≡ no_lines → Led (desk left n fresh) (desk left n s) p
 led_first left n s p e q = subst (λ (x : InputProgress). Led (desk left n fresh) (desk left n x) p) (sym e) (led_fresh left n p q)
 
 -- the next line, and what comes after it
@@ -79,7 +80,7 @@ led_on first s t p q k l e = record {
 }
 
 -- a line that is bad, or for which memory runs out
-pub led_fault : (left : Option (List ℕ)) (n : ℕ) (s t : Desk) (p q : Progress) (f : Fault TranscriptReason) → Led (desk left n fresh) s p → IsFed s t
+pub led_fault : (left : Tape) (n : ℕ) (s t : Desk) (p q : Progress) (f : Fault TranscriptReason) → Led (desk left n fresh) s p → IsFed s t
     → ReadsTranscriptLine {T = Unit {0}} (Err f) p q (with_line header_read p t.at.text) → Stops IsBad (desk left n fresh) t (of_offer f)
 led_fault left n s t p q fault.NoMemory k l h =
     no_memory_after (desk left n fresh) t (k.bytes ++ l.bytes) (stands_on (desk left n fresh) s t k.bytes l.bytes k.stands l.stands)
@@ -92,7 +93,7 @@ led_fault left n s t p q (fault.Refused reason) k l h = record {
 }
 
 -- all lines were read
-pub led_to_end : (left : Option (List ℕ)) (n : ℕ) (s t : Desk) (p : Progress) → Led (desk left n fresh) s p → IsRest s t
+pub led_to_end : (left : Tape) (n : ℕ) (s t : Desk) (p : Progress) → Led (desk left n fresh) s p → IsRest s t
     → Ends (IsReadByReader p t.at.text) (desk left n fresh) t
 led_to_end left n s t p k l = record {
   bytes = k.bytes ++ l.bytes;

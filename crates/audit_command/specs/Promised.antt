@@ -5,7 +5,7 @@ use Rattle.swap_rules.specs.Accepted.{IsAccepted}
 use Rattle.swap_rules.specs.Laws.{FindsNothing, IsTransferred}
 use Rattle.outcome_rules.specs.declared.report.Report.{Report}
 use Rattle.outcome_rules.specs.Report.{is_conforming_party, build_report}
-use Rattle.outcome_rules.specs.Promises.{AllAreConforming, AllAreWhole, AllHaveRefunds, NoneIsUnderwater, shown_outcome}
+use Rattle.outcome_rules.specs.Promises.{AllAreConforming, AllArePaid, AllAreWhole, AllHaveRefunds, NobodyGains, NoneIsUnderwater, NoneLosesUnits, shown_outcome, UnpublishedLoseNothing, WatchfulAreWhole}
 use Rattle.swap_auditor.specs.Audit.{AreUnitsConserved}
 use Rattle.audit_command.specs.Header.{header_read, IsTranscriptJob}
 use Rattle.audit_command.specs.Laws.{IsWholeText}
@@ -28,6 +28,16 @@ pub record IsSoundAudit (t : Story) (r : Report) : Type 0 where
   -- has its refunds
   pub safe : NoneIsUnderwater t.job.deal t.job.conforming (shown_outcome r) r.findings
   pub refunds : AllHaveRefunds t.job.deal t.job.conforming t.book r.findings
+  -- nobody gains by cheating, alone or together, unless a conforming party is endangered or forged
+  pub gains : NobodyGains t.job.deal t.job.conforming t.book (shown_outcome r) r.findings
+  -- in units: one that no finding endangers is paid in full as soon as it lost an arc, and one that
+  -- none strands either lost nothing, or is paid in full
+  pub paid : AllArePaid t.job.deal t.job.conforming t.book r.findings
+  pub lossless : NoneLosesUnits t.job.deal t.job.conforming t.book r.findings
+  -- whatever is found: a conducted and watchful party is safe and has its units, and a party that
+  -- published and transferred nothing has lost nothing
+  pub watchful : WatchfulAreWhole t.job.deal t.book
+  pub unpublished : UnpublishedLoseNothing t.job.deal t.book
   -- where all conform and nothing is found, all is transferred, and the report shows each party
   -- with the whole deal
   pub transfer : AllAreConforming t.job.deal t.job.conforming → r.findings ≡ [] → IsTransferred t.job.deal t.book accepted

@@ -1,6 +1,7 @@
 -- What each status of an audit says.
 use Rattle.std.specs.Prelude.{◌≡◌, ◌≤◌, ◌+◌, ◌⊎◌, ℕ, true, false, List, length, Option, Result, Ok, Err}
-use Rattle.std.specs.Io.KnownBytes.{Consumes, IsAtEnd, Keeps}
+use Rattle.std.specs.Io.KnownBytes.{Keeps}
+use Rattle.swap_io.specs.Tape.{Consumes, IsAtEnd, Tape}
 use Rattle.swap_io.specs.Causes.{ConsumesAtMost, ConsumesSome, AppendsProperPrefix}
 use Rattle.swap_io.specs.Handed.{AppendsPrefix}
 use Rattle.command_input.specs.declared.refusal.Refusal.{Refusal}
@@ -14,7 +15,7 @@ use Rattle.audit_command.specs.Output.{audit_output}
 use Rattle.audit_command.specs.Promised.{IsAudit}
 
 -- The whole input was read, and this is the audit's output for it.
-pub record HasAuditAnswer (left left' : Option (List ℕ)) (output : Result Written Refusal) : Type 0 where
+pub record HasAuditAnswer (left left' : Tape) (output : Result Written Refusal) : Type 0 where
   pub input : List ℕ
   pub taken : Consumes left left' input
   pub ended : IsAtEnd left'
@@ -23,7 +24,7 @@ pub record HasAuditAnswer (left left' : Option (List ℕ)) (output : Result Writ
 
 -- The input was read and has an output, which is promised, and P tells what was written of its
 -- text.
-pub record HasAuditOutput (P : Written → Type 0) (left left' : Option (List ℕ)) : Type 0 where
+pub record HasAuditOutput (P : Written → Type 0) (left left' : Tape) : Type 0 where
   pub output : Written
   pub read : HasAuditAnswer left left' (Ok output)
   pub promised : IsAudit read.input output

@@ -1,11 +1,11 @@
 -- The lines of an input that comes piece by piece.
 use Rattle.std.proofs.Common.{◌≡◌, ◌==◌, ◌<◌, ◌≤◌, ◌+◌, ◌-◌, ℕ, suc, Bool, true, false, not, cond, eqb, IsTrue, ◌⊎◌, inl, inr, List, [], ◌∷◌, ◌++◌}
-use Rattle.std.proofs.Common.{length, Option}
+use Rattle.std.proofs.Common.{length}
 use Rattle.std.proofs.Common.{Result, Ok, Err, drop, ◌↔◌, refl, sym, ap, ap₂, ◌∙◌, subst, arith, append_assoc, append-nil, length-append}
 use Rattle.std.proofs.lemmas.Bool.{and_parts}
 use Rattle.std.proofs.lemmas.List.{length-drop}
+use Rattle.swap_io.specs.Tape.{IsAtEnd, Tape}
 use Rattle.swap_io.specs.Causes.{Rose}
-use Rattle.std.specs.Io.KnownBytes.{IsAtEnd}
 use Rattle.swap_io.specs.Lines.{IsNext, Reading, TookSome, feeds, lacks_feed}
 use Rattle.swap_io.specs.declared.fault.LineFault.{LineFault}
 use Rattle.swap_io.specs.declared.fault.LineFault.TheVariants as line
@@ -121,7 +121,7 @@ drain_breaks s t drained.TooLong result is took long most lim rose calm =
     (calm (λ e. absurd (cc (sym is ∙ e))), too_long s t took (long.0 is) most lim)
 
 -- no more lines are counted than bytes were taken
-pub counts : (end : LineEnd) (a b : Option (List ℕ)) (s t : Reading) (line : List ℕ) (n : ℕ) → IsNext a b s t line end → n + length s.kept ≤ s.taken
+pub counts : (end : LineEnd) (a b : Tape) (s t : Reading) (line : List ℕ) (n : ℕ) → IsNext a b s t line end → n + length s.kept ≤ s.taken
     → counted_lines end n + length t.kept ≤ t.taken
 counts Ended a b s t line n p le =
     omega (arith, le, p.took.counted, length-append s.kept p.bytes, length-append line (10 ∷ t.kept), ap length p.parts)
@@ -344,7 +344,7 @@ past_ahead n [] rest =
 past_ahead n (b ∷ bs) rest = past_one (eqb b 10) n b bs rest refl (past_ahead (n + 1) bs rest)
 
 -- empty lines are passed over
-pub passed_past : (first : Desk) (left : Option (List ℕ)) (faults : ℕ) (s : InputProgress) → Passed first (desk left faults s)
+pub passed_past : (first : Desk) (left : Tape) (faults : ℕ) (s : InputProgress) → Passed first (desk left faults s)
     → Passed first (desk left faults (past_empty s))
 passed_past first left faults s p = record {
   bytes = p.bytes;

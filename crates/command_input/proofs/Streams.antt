@@ -1,6 +1,7 @@
 -- A reading steps along the lines of its input.
-use Rattle.std.proofs.Common.{◌≡◌, ◌+◌, ℕ, Bool, true, false, List, [], ◌∷◌, ◌++◌, Result, Ok, Err, Option, refl, sym, ap, ◌∙◌, subst, arith}
+use Rattle.std.proofs.Common.{◌≡◌, ◌+◌, ℕ, Bool, true, false, List, [], ◌∷◌, ◌++◌, Result, Ok, Err, refl, sym, ap, ◌∙◌, subst, arith}
 use Rattle.std.proofs.Common.{append_assoc, append-nil}
+use Rattle.swap_io.specs.Tape.{Tape}
 use Rattle.swap_base.specs.Fault.{◌>>=◌, Fails}
 use Rattle.swap_base.specs.declared.fault.Fault.{Fault}
 use Rattle.swap_base.specs.declared.fault.Fault.TheVariants as offer
@@ -24,7 +25,7 @@ pub can_come : (s : InputProgress) (rest : List ℕ) → s.over ≡ false → Ca
 can_come s rest not_over = λ over. absurd (cc (sym not_over ∙ over))
 
 -- before the first line
-pub fits_fresh : (left : Option (List ℕ)) (s : InputProgress) → s ≡ fresh → Fits left s
+pub fits_fresh : (left : Tape) (s : InputProgress) → s ≡ fresh → Fits left s
 fits_fresh left s e = subst (λ (t : InputProgress). Fits left t) (sym e) (record { within = omega arith; ended = λ over. absurd (cc over) })
 
 -- what a walk in the state y makes of the next line, whose number is given, and then of the lines
@@ -154,7 +155,7 @@ last_run false s t e p = p
 pub no_memory_after : (s t : Desk) (bytes : List ℕ) → Stands s t bytes → HasNoNewFault s t × TookPart s t
 no_memory_after s t bytes p = (p.calm, ((bytes, p.took), p.fits.within))
 
-pub nothing_read : (left : Option (List ℕ)) (n : ℕ) → HasNoNewFault (desk left n fresh) (desk left n fresh) × TookPart (desk left n fresh) (desk left n fresh)
+pub nothing_read : (left : Tape) (n : ℕ) → HasNoNewFault (desk left n fresh) (desk left n fresh) × TookPart (desk left n fresh) (desk left n fresh)
 nothing_read left n = no_memory_after (desk left n fresh) (desk left n fresh) [] (stands_none (desk left n fresh) (fits_fresh left fresh refl))
 
 -- no line was given
@@ -163,7 +164,7 @@ line_stops P s t line.ReadFault h = h
 line_stops P s t line.TooLong h = h
 line_stops P s t line.NoMemory h = h
 
-pub first_stops : {R : Type 0} (P : List ℕ → R → Type 0) (left : Option (List ℕ)) (n : ℕ) (s : InputProgress) (t : Desk) → s ≡ fresh → (e : LineFault)
+pub first_stops : {R : Type 0} (P : List ℕ → R → Type 0) (left : Tape) (n : ℕ) (s : InputProgress) (t : Desk) → s ≡ fresh → (e : LineFault)
     → GivesNoLine (desk left n s) t e → Stops P (desk left n fresh) t (of_line e)
 first_stops P left n s t first e h = subst (λ (x : InputProgress). Stops P (desk left n x) t (of_line e)) first (line_stops P (desk left n s) t e h)
 

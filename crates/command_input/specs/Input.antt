@@ -1,6 +1,6 @@
 -- An input that is read line by line.
-use Rattle.std.specs.Prelude.{◌≡◌, ◌<◌, ◌≤◌, ◌+◌, ◌-◌, ℕ, cond, Bool, true, false, List, [], ◌∷◌, ◌++◌, length, IsTrue, Option}
-use Rattle.std.specs.Io.KnownBytes.{IsAtEnd}
+use Rattle.std.specs.Prelude.{◌≡◌, ◌<◌, ◌≤◌, ◌+◌, ◌-◌, ℕ, cond, Bool, true, false, List, [], ◌∷◌, ◌++◌, length, IsTrue}
+use Rattle.swap_io.specs.Tape.{IsAtEnd, Tape}
 use Rattle.swap_io.specs.Causes.{Rose}
 use Rattle.swap_io.specs.Lines.{IsNext, Reading, TookFromSource, feeds, lacks_feed, past_feeds}
 use Rattle.swap_io.specs.declared.line_end.LineEnd.{LineEnd}
@@ -44,20 +44,20 @@ CanBeLeft s rest = s.over ≡ true → rest ≡ []
 
 -- What the source has left fits what was read: no more was taken than an input may have, and
 -- nothing is left where the end was met.
-pub record Fits (left : Option (List ℕ)) (s : InputProgress) : Type 0 where
+pub record Fits (left : Tape) (s : InputProgress) : Type 0 where
   pub within : s.reading.taken ≤ limit
   pub ended : s.over ≡ true → IsAtEnd left
 
 -- An input and its source at one moment.
 pub record Desk : Type 0 where
-  -- what the source has left
-  pub left : Option (List ℕ)
+  -- what the source gave, and what it has left
+  pub left : Tape
   -- how many of its calls failed
   pub faults : ℕ
   -- how far the input was read
   pub at : InputProgress
 
-abbrev pub desk : Option (List ℕ) → ℕ → InputProgress → Desk
+abbrev pub desk : Tape → ℕ → InputProgress → Desk
 desk left faults at = record { left = left; faults = faults; at = at }
 
 -- no call of the source failed in between

@@ -9,7 +9,7 @@ ghost use Rattle.swap_rules.specs.Findings.{findings, party_findings, unfinished
 ghost use Rattle.swap_rules.specs.Outcome.{outcome};
 ghost use Rattle.swap_rules.specs.Laws.{FindsNothing, IsTransferred};
 ghost use Rattle.outcome_rules.specs.UnfinishedArcs.{arc_unfinished};
-ghost use Rattle.outcome_rules.specs.Promises.{AllAreConforming, AllHaveRefunds, NoneIsUnderwater};
+ghost use Rattle.outcome_rules.specs.Promises.{AllAreConforming, AllArePaid, AllHaveRefunds, NobodyGains, NoneIsUnderwater, NoneLosesUnits};
 ghost use Rattle.outcome_rules.specs.Report.{is_conforming_party};
 
 use crate::indexes::build_indexes;
@@ -128,7 +128,11 @@ pub fn findings_indexed(
     requires legal { IsLegalBook deal.now (all_entries known.now) }
     ensures exact { IfOk result (λ l. l ≡ findings deal.now (is_conforming_party conforming.now) (all_entries known.now)) }
     ensures safe { IfOk result (λ l. IsAccepted deal.now → NoneIsUnderwater deal.now conforming.now (outcome deal.now (all_entries known.now)) l) }
+    ensures gains { IfOk result (λ l. IsAccepted deal.now
+        → NobodyGains deal.now conforming.now (all_entries known.now) (outcome deal.now (all_entries known.now)) l) }
     ensures refunds { IfOk result (λ l. IsAccepted deal.now → AllHaveRefunds deal.now conforming.now (all_entries known.now) l) }
+    ensures paid { IfOk result (λ l. IsAccepted deal.now → AllArePaid deal.now conforming.now (all_entries known.now) l) }
+    ensures units { IfOk result (λ l. IsAccepted deal.now → NoneLosesUnits deal.now conforming.now (all_entries known.now) l) }
     ensures transfer { IfOk result (λ l. (k : IsAccepted deal.now) → AllAreConforming deal.now conforming.now → l ≡ []
         → IsTransferred deal.now (all_entries known.now) k) }
     ensures nothing_found { IfOk result (λ l. l ≡ [] → FindsNothing deal.now (is_conforming_party conforming.now) (all_entries known.now)) }
@@ -155,7 +159,11 @@ pub fn findings(
     requires legal { IsLegalBook deal.now book.now.histories }
     ensures exact { IfOk result (λ l. l ≡ findings deal.now (is_conforming_party conforming.now) book.now.histories) }
     ensures safe { IfOk result (λ l. IsAccepted deal.now → NoneIsUnderwater deal.now conforming.now (outcome deal.now book.now.histories) l) }
+    ensures gains { IfOk result (λ l. IsAccepted deal.now
+        → NobodyGains deal.now conforming.now book.now.histories (outcome deal.now book.now.histories) l) }
     ensures refunds { IfOk result (λ l. IsAccepted deal.now → AllHaveRefunds deal.now conforming.now book.now.histories l) }
+    ensures paid { IfOk result (λ l. IsAccepted deal.now → AllArePaid deal.now conforming.now book.now.histories l) }
+    ensures units { IfOk result (λ l. IsAccepted deal.now → NoneLosesUnits deal.now conforming.now book.now.histories l) }
     ensures transfer { IfOk result (λ l. (k : IsAccepted deal.now) → AllAreConforming deal.now conforming.now → l ≡ []
         → IsTransferred deal.now book.now.histories k) }
     ensures nothing_found { IfOk result (λ l. l ≡ [] → FindsNothing deal.now (is_conforming_party conforming.now) book.now.histories) }

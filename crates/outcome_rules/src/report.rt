@@ -8,7 +8,7 @@ ghost use Rattle.ledger_core.specs.Book.{IsLegalBook};
 ghost use Rattle.history_index.specs.Indexes.{all_entries, AreIndexes};
 ghost use Rattle.swap_rules.specs.Accepted.{IsAccepted};
 ghost use Rattle.swap_rules.specs.Laws.{FindsNothing, IsTransferred};
-ghost use Rattle.outcome_rules.specs.Promises.{AllAreConforming, AllAreWhole, AllHaveRefunds, NoneIsUnderwater, shown_outcome};
+ghost use Rattle.outcome_rules.specs.Promises.{AllAreConforming, AllArePaid, AllAreWhole, AllHaveRefunds, NobodyGains, NoneIsUnderwater, NoneLosesUnits, shown_outcome};
 ghost use Rattle.outcome_rules.specs.Report.{is_conforming_party, has_ended, deal_outcomes, build_report};
 
 use crate::ending::outcome;
@@ -74,7 +74,10 @@ fn report_indexed(
     requires legal { IsLegalBook deal.now (all_entries known.now) }
     ensures exact { IfOk result (λ r. r ≡ build_report deal.now conforming.now (all_entries known.now)) }
     ensures safe { IfOk result (λ r. IsAccepted deal.now → NoneIsUnderwater deal.now conforming.now (shown_outcome r) r.findings) }
+    ensures gains { IfOk result (λ r. IsAccepted deal.now → NobodyGains deal.now conforming.now (all_entries known.now) (shown_outcome r) r.findings) }
     ensures refunds { IfOk result (λ r. IsAccepted deal.now → AllHaveRefunds deal.now conforming.now (all_entries known.now) r.findings) }
+    ensures paid { IfOk result (λ r. IsAccepted deal.now → AllArePaid deal.now conforming.now (all_entries known.now) r.findings) }
+    ensures units { IfOk result (λ r. IsAccepted deal.now → NoneLosesUnits deal.now conforming.now (all_entries known.now) r.findings) }
     ensures transfer { IfOk result (λ r. (k : IsAccepted deal.now) → AllAreConforming deal.now conforming.now → r.findings ≡ []
         → IsTransferred deal.now (all_entries known.now) k) }
     ensures whole { IfOk result (λ r. IsAccepted deal.now → AllAreConforming deal.now conforming.now → r.findings ≡ [] → AllAreWhole deal.now r) }
@@ -100,7 +103,10 @@ pub fn build_report(
     requires legal { IsLegalBook deal.now book.now.histories }
     ensures exact { IfOk result (λ r. r ≡ build_report deal.now conforming.now book.now.histories) }
     ensures safe { IfOk result (λ r. IsAccepted deal.now → NoneIsUnderwater deal.now conforming.now (shown_outcome r) r.findings) }
+    ensures gains { IfOk result (λ r. IsAccepted deal.now → NobodyGains deal.now conforming.now book.now.histories (shown_outcome r) r.findings) }
     ensures refunds { IfOk result (λ r. IsAccepted deal.now → AllHaveRefunds deal.now conforming.now book.now.histories r.findings) }
+    ensures paid { IfOk result (λ r. IsAccepted deal.now → AllArePaid deal.now conforming.now book.now.histories r.findings) }
+    ensures units { IfOk result (λ r. IsAccepted deal.now → NoneLosesUnits deal.now conforming.now book.now.histories r.findings) }
     ensures transfer { IfOk result (λ r. (k : IsAccepted deal.now) → AllAreConforming deal.now conforming.now → r.findings ≡ []
         → IsTransferred deal.now book.now.histories k) }
     ensures whole { IfOk result (λ r. IsAccepted deal.now → AllAreConforming deal.now conforming.now → r.findings ≡ [] → AllAreWhole deal.now r) }

@@ -1,32 +1,40 @@
 -- What is promised of an answer.
-use Rattle.std.proofs.Common.{◌≡◌, ◌⊎◌, ℕ, ◌<◌, ◌≤◌, ◌+◌, ◌&&◌, not, length, Bool, true, false, List, [], ◌++◌, Option, Some, Result, Ok, refl, sym, ap, ◌∙◌}
-use Rattle.std.proofs.Common.{subst, inl, inr, arith}
+use Rattle.std.proofs.Common.{◌≡◌, ◌⊎◌, ℕ, ◌<◌, ◌≤◌, ◌+◌, ◌&&◌, ◌||◌, not, length, Bool, true, false, List, [], ◌++◌, Option, Some, Result, Ok, refl, sym, ap, ◌∙◌}
+use Rattle.std.proofs.Common.{◌∷◌, subst, inl, inr, arith}
+use Rattle.std.specs.List.{flat_map}
 use Rattle.std.proofs.lemmas.Bool.{false≢true}
 use Rattle.swap_base.specs.Lists.{IsElement}
-use Rattle.swap_base.proofs.Lists.{from_filter, in_filter, in_map}
+use Rattle.swap_base.proofs.Lists.{and_both, and_parts, from_filter, in_filter, in_flat_map, in_map}
 use Rattle.swap_digraph.specs.declared.deal.Deal.{Deal}
 use Rattle.swap_digraph.specs.declared.deal.Mode.{Mode}
 use Rattle.swap_digraph.specs.declared.deal.Mode.TheVariants.{Timelocks, Hashkeys}
+use Rattle.swap_digraph.specs.Graph.{leaving}
 use Rattle.hashkey_path.specs.declared.hashkey.Hashkey.{Hashkey}
+use Rattle.escrow_core.specs.declared.terms.Terms.{Terms}
+use Rattle.escrow_core.specs.Terms.{stated_terms}
 use Rattle.ledger_core.specs.declared.entry.Call.{Call}
-use Rattle.ledger_core.specs.declared.entry.Call.TheVariants.{Unlock}
+use Rattle.ledger_core.specs.declared.entry.Call.TheVariants.{Publish, Unlock}
 use Rattle.ledger_core.specs.declared.entry.Entry.{Entry}
 use Rattle.ledger_core.specs.History.{height}
 use Rattle.ledger_core.specs.Book.{Histories, history, IsLegalBook}
 use Rattle.swap_rules.specs.Accepted.{IsAccepted}
 use Rattle.swap_rules.specs.Conduct.{is_publish}
-use Rattle.swap_rules.specs.Due.{Action, due}
+use Rattle.swap_rules.specs.Party.{is_ready, leads_one}
+use Rattle.swap_rules.specs.Due.{Action, due, has_called, is_due_publish, when_due}
 use Rattle.swap_rules.specs.Machine.{IsWallet}
-use Rattle.swap_rules.specs.Rest.{rest_deadline, StaysLow}
+use Rattle.swap_rules.specs.Rest.{are_ticks, rest_deadline, StaysLow}
+use Rattle.swap_rules.proofs.Cases.{Case, ToPublish, ToUnlock, ToClaim, ToRefund, case_of}
+use Rattle.swap_rules.proofs.Prefixes.{from_flat_map}
 use Rattle.swap_rules.proofs.Rest.{rests_below}
 use Rattle.swap_rules.proofs.Useful.{useful_is_due, only_harm_is_left_out, ticks_make_nothing_useful}
-use Rattle.wallet_promise.specs.Life.{kept_note, make_if, is_kept, MayGo, MayKeep}
-use Rattle.wallet_promise.specs.Answers.{was_sent}
+use Rattle.wallet_promise.specs.Life.{kept_note, make_if, is_kept}
+use Rattle.wallet_promise.specs.Answers.{was_sent, MayGo, MayKeep}
 use Rattle.wallet_promise.proofs.Keys.{kept_state}
 use Rattle.wallet_promise.proofs.Enough.{same_useful}
+use Rattle.wallet_promise.proofs.Landing.{answered_opens}
 use Rattle.party_wallet.specs.Keys.{own_key, onto_key}
 use Rattle.party_machine.specs.Wallet.{seed_wallet}
-use Rattle.answer_rules.specs.Heights.{HasHeight}
+use Rattle.answer_rules.specs.Heights.{HasHeight, last_accepted}
 use Rattle.answer_rules.specs.Finished.{are_finished, ContinuesWithoutParty}
 use Rattle.answer_rules.specs.Stopped.{is_stopped_call}
 use Rattle.answer_rules.specs.Laws.{AreGoodKeys, SignsItsLock}
@@ -39,11 +47,14 @@ use Rattle.party_answer.specs.declared.timed.Timed.{Timed}
 use Rattle.party_answer.specs.declared.given.Answer.{Answer}
 use Rattle.party_answer.specs.declared.reason.AnswerReason.{AnswerReason}
 use Rattle.party_answer.specs.Asked.{PartyQuestion, known}
+use Rattle.party_answer.specs.Landing.{may_land}
 use Rattle.party_answer.specs.Unkept.{is_lock_unkept}
-use Rattle.party_answer.specs.Lines.{untimed, Line, Present, KeepFirst, Landing}
-use Rattle.party_answer.specs.Text.{answerable, answered, answered_calls, due_text, kept_keys, answered_lines, own_wallet, question_answer, unkept, useful_actions, was_published}
-use Rattle.party_answer.specs.Promised.{MayBeMade, MayBeKept, CanOnlyHurt, IsLockUnkept, IsLeftOutAction, IsWithinRest, HasLastHeight, own_timed, IsPromisedAnswer}
-use Rattle.party_answer.proofs.Members.{from_map, Parts, ToPresent, ToKeep, ToLand, parts, from_lines, to_present, to_keep, never_empty}
+use Rattle.party_answer.specs.Lines.{last_helpful, untimed, Line, Present, KeepFirst}
+use Rattle.party_answer.specs.Text.{answerable_landing, answered, answered_calls, due_text, kept_keys, answered_lines, landing_actions, landing_calls, lands_at, own_wallet}
+use Rattle.party_answer.specs.Text.{question_answer, unkept, useful_actions, useful_landing, was_published}
+use Rattle.party_answer.specs.Promised.{MayBeMade, MayBeKept, CanOnlyHurt, IsLockUnkept, IsLeftOutAction, IsNothingAnswered, IsWithinRest, HasLastHeight, OpensInTime, own_timed}
+use Rattle.party_answer.specs.Promised.{with_more, IsPromisedAnswer}
+use Rattle.party_answer.proofs.Members.{from_map, Parts, ToPresent, ToKeep, parts, from_lines, to_present, to_keep, never_empty}
 
 -- A seed signs for the lock that it is asked for.
 
@@ -85,14 +96,35 @@ module _ (q : PartyQuestion) (sound : IsSound q) where
   signs : SignsItsLock (own_wallet q)
   signs = seed_signs q.deal q.me q.seed
 
-  -- a call of the answer is useful, and isn't stopped
-  from_answered : (x : Action) → IsElement x (answered q) → IsElement x (useful_actions q (known q)) × (is_stopped_call (is_lock_unkept (unkept q)) x.call ≡ false)
-  from_answered x i =
-      let f = from_filter (λ y. not (is_stopped_call (is_lock_unkept (unkept q)) y.call)) x (useful_actions q (known q)) i in
-      (f.0, not_true (is_stopped_call (is_lock_unkept (unkept q)) x.call) f.1)
+  abbrev is_out : Action → Bool
+  is_out x = is_stopped_call (is_lock_unkept (unkept q)) x.call
 
-  to_answered : (x : Action) → IsElement x (useful_actions q (known q)) → is_stopped_call (is_lock_unkept (unkept q)) x.call ≡ false → IsElement x (answered q)
-  to_answered x i s = in_filter (λ y. not (is_stopped_call (is_lock_unkept (unkept q)) y.call)) x (useful_actions q (known q)) i (ap not s)
+  abbrev is_sent_already : Action → Bool
+  is_sent_already x = was_sent (was_published q) x
+
+  -- a call of these is useful, and isn't stopped
+  from_answerable : (at : ℕ → ℕ) (k : Histories) (x : Action) → IsElement x (answerable_landing q at k) → IsElement x (useful_landing q at k) × (is_out x ≡ false)
+  from_answerable at k x i =
+      let f = from_filter (λ y. not (is_out y)) x (useful_landing q at k) i in (f.0, not_true (is_out x) f.1)
+
+  to_answerable : (at : ℕ → ℕ) (k : Histories) (x : Action) → IsElement x (useful_landing q at k) → is_out x ≡ false → IsElement x (answerable_landing q at k)
+  to_answerable at k x i s = in_filter (λ y. not (is_out y)) x (useful_landing q at k) i (ap not s)
+
+  -- a call of the answer is useful, isn't stopped and wasn't sent
+  pub record IsAnsweredCall (x : Action) : Type 0 where
+    pub useful : IsElement x (useful_actions q (known q))
+    pub goes : is_out x ≡ false
+    pub unsent : is_sent_already x ≡ false
+
+  from_answered : (x : Action) → IsElement x (answered q) → IsAnsweredCall x
+  from_answered x i =
+      let f = from_filter (λ y. not (is_sent_already y)) x (answerable_landing q (lands_at q) (known q)) i in
+      let g = from_answerable (lands_at q) (known q) x f.0 in record { useful = g.0; goes = g.1; unsent = not_true (is_sent_already x) f.1 }
+
+  to_answered : (x : Action) → IsAnsweredCall x → IsElement x (answered q)
+  to_answered x i =
+      in_filter (λ y. not (is_sent_already y)) x (answerable_landing q (lands_at q) (known q)) (to_answerable (lands_at q) (known q) x i.useful i.goes)
+      (ap not i.unsent)
 
   -- with its heights
   from_calls : (t : Timed) → IsElement t (answered_calls q) → (x : Action) × IsElement x (answered q) × (own_timed q x ≡ t)
@@ -101,12 +133,11 @@ module _ (q : PartyQuestion) (sound : IsSound q) where
   to_calls : (x : Action) → IsElement x (answered q) → IsElement (own_timed q x) (answered_calls q)
   to_calls x i = in_map (own_timed q) (answered q) x i
 
-  useful_call : (t : Timed) → IsElement t (answered_calls q) → IsElement (untimed t) (useful_actions q (known q))
-  useful_call t i =
-      let f = from_calls t i in subst (λ (y : Timed). IsElement (untimed y) (useful_actions q (known q))) f.2 (from_answered f.0 f.1).0
+  call_is : (t : Timed) → IsElement t (answered_calls q) → IsAnsweredCall (untimed t)
+  call_is t i = let f = from_calls t i in subst (λ (y : Timed). IsAnsweredCall (untimed y)) f.2 (from_answered f.0 f.1)
 
   due_call : (t : Timed) → IsElement t (answered_calls q) → IsElement (untimed t) (due q.deal q.me (own_wallet q) (kept_keys q) (known q))
-  due_call t i = useful_is_due q.deal q.me (own_wallet q) (kept_keys q) (known q) (untimed t) (useful_call t i)
+  due_call t i = useful_is_due q.deal q.me (lands_at q) (own_wallet q) (kept_keys q) (known q) (untimed t) (call_is t i).useful
 
   -- ---- line by line
 
@@ -114,38 +145,30 @@ module _ (q : PartyQuestion) (sound : IsSound q) where
   pub record Said (y : Line) : Type 0 where
     pub call : Timed
     pub within : IsElement call (answered_calls q)
-    pub says : Parts (kept_keys q) (was_published q) call y
+    pub says : Parts (kept_keys q) call y
 
   said : (y : Line) → IsElement y (answered_lines q) → Said y
   said y i =
-      let f = from_lines (kept_keys q) (was_published q) (answered_calls q) y i in
-      record { call = f.0; within = f.1; says = subst (Parts (kept_keys q) (was_published q) f.0) f.2 (parts (kept_keys q) (was_published q) f.0) }
+      let f = from_lines (kept_keys q) (answered_calls q) y i in
+      record { call = f.0; within = f.1; says = subst (Parts (kept_keys q) f.0) f.2 (parts (kept_keys q) f.0) }
 
-  may_be_made : (t u : Timed) (y : Line) → IsElement u (answered_calls q) → Parts (kept_keys q) (was_published q) u y → y ≡ Present t → MayBeMade q (untimed t)
-  may_be_made t u y i (ToPresent s k) e =
+  -- the call that may be presented, of the answer, and its hashkey was kept
+  presented_here : (t u : Timed) (y : Line) → IsElement u (answered_calls q) → Parts (kept_keys q) u y → y ≡ Present t
+      → IsElement t (answered_calls q) × (is_kept (kept_keys q) t.call ≡ true)
+  presented_here t u y i (ToPresent k) e =
       let same : u ≡ t = cc e in
-      subst (λ (z : Timed). MayBeMade q (untimed z)) same (record { is_due = due_call u i; was_kept = k })
-  may_be_made t u y i (ToKeep key s k c) e = absurd (cc e)
-  may_be_made t u y i (ToLand s) e = absurd (cc e)
+      (subst (λ (z : Timed). IsElement z (answered_calls q)) same i, subst (λ (z : Timed). is_kept (kept_keys q) z.call ≡ true) same k)
+  presented_here t u y i (ToKeep key k c) e = absurd (cc e)
 
-  sent_once : (t u : Timed) (y : Line) → Parts (kept_keys q) (was_published q) u y → y ≡ Present t → was_sent (was_published q) (untimed t) ≡ false
-  sent_once t u y (ToPresent s k) e =
-      let same : u ≡ t = cc e in subst (λ (z : Timed). was_sent (was_published q) (untimed z) ≡ false) same s
-  sent_once t u y (ToKeep key s k c) e = absurd (cc e)
-  sent_once t u y (ToLand s) e = absurd (cc e)
+  presents : (t : Timed) → IsElement (Present t) (answered_lines q) → IsElement t (answered_calls q) × (is_kept (kept_keys q) t.call ≡ true)
+  presents t i = let s = said (Present t) i in presented_here t s.call (Present t) s.within s.says refl
 
-  is_helpful : (t u : Timed) (y : Line) → IsElement u (answered_calls q) → Parts (kept_keys q) (was_published q) u y → y ≡ Present t
-      → IsElement (untimed t) (useful_actions q (known q))
-  is_helpful t u y i (ToPresent s k) e =
-      let same : u ≡ t = cc e in subst (λ (z : Timed). IsElement (untimed z) (useful_actions q (known q))) same (useful_call u i)
-  is_helpful t u y i (ToKeep key s k c) e = absurd (cc e)
-  is_helpful t u y i (ToLand s) e = absurd (cc e)
+  may_be_made : (t : Timed) → IsElement (Present t) (answered_lines q) → MayBeMade q (untimed t)
+  may_be_made t i = let p = presents t i in record { is_due = due_call t p.0; was_kept = p.1 }
 
-  may_be_kept : (t u : Timed) (key : Hashkey) (y : Line) → IsElement u (answered_calls q) → Parts (kept_keys q) (was_published q) u y → y ≡ KeepFirst t key
-      → MayBeKept q key
-  may_be_kept t u key y i (ToPresent s k) e = absurd (cc e)
-  may_be_kept t u key y i (ToLand s) e = absurd (cc e)
-  may_be_kept t u key y i (ToKeep other s k c) e =
+  may_be_kept : (t u : Timed) (key : Hashkey) (y : Line) → IsElement u (answered_calls q) → Parts (kept_keys q) u y → y ≡ KeepFirst t key → MayBeKept q key
+  may_be_kept t u key y i (ToPresent k) e = absurd (cc e)
+  may_be_kept t u key y i (ToKeep other k c) e =
       let same : other ≡ key = cc e in
       subst (MayBeKept q) same (record {
         unlock = untimed u;
@@ -153,50 +176,116 @@ module _ (q : PartyQuestion) (sound : IsSound q) where
         asks = ap (λ (b : Bool). make_if b (untimed u)) k ∙ ap kept_note c;
       })
 
-  lands : (a : ℕ) (u : Timed) (y : Line) → IsElement u (answered_calls q) → Parts (kept_keys q) (was_published q) u y → y ≡ Landing a
-      → (x : Action) × IsElement x (useful_actions q (known q)) × (was_sent (was_published q) x ≡ true) × (x.arc ≡ a)
-  lands a u y i (ToPresent s k) e = absurd (cc e)
-  lands a u y i (ToKeep key s k c) e = absurd (cc e)
-  lands a u y i (ToLand s) e = let same : u.arc ≡ a = cc e in (untimed u, useful_call u i, s, same)
+  -- ---- publishes
+
+  abbrev DueCase : ℕ → Call → Type 0
+  DueCase a c = Case q.deal q.me (own_wallet q) (kept_keys q) (known q) a c
+
+  case_here : (x : Action) → IsElement x (due q.deal q.me (own_wallet q) (kept_keys q) (known q)) → DueCase x.arc x.call
+  case_here x i = case_of q.deal q.me (own_wallet q) (kept_keys q) (known q) x i
+
+  opens : (t : Timed) (terms : Terms) → IsElement (Present t) (answered_lines q) → t.call ≡ Publish terms → OpensInTime q t terms
+  opens t terms i e =
+      answered_opens q.deal q.me (lands_at q) (own_wallet q) (kept_keys q) (known q) (untimed t) terms (call_is t (presents t i).0).useful e
+
+  -- a due publish that was sent may land
+  due_lands : (c : Call) (a : ℕ) → DueCase a c → (is_publish (Some c) && was_published q a) ≡ true
+      → IsElement a (leaving q.deal.graph q.me) × (may_land q.kept.sent q.me (known q) a ≡ true)
+  unfolding is_due_publish
+  due_lands c a (ToPublish i d e) s =
+      let p = and_parts (is_publish (Some c)) (was_published q a) s in (
+        i,
+        and_both (was_published q a) (not (has_called q.me is_publish (history (known q) a))) p.1
+            (and_parts (leads_one q.deal q.me || is_ready q.deal (known q) q.me) (not (has_called q.me is_publish (history (known q) a))) d).1,
+      )
+  due_lands c a (ToClaim i d e) s = absurd (false≢true (sym (ap (λ (z : Call). is_publish (Some z) && was_published q a) e) ∙ s))
+  due_lands c a (ToRefund i d e) s = absurd (false≢true (sym (ap (λ (z : Call). is_publish (Some z) && was_published q a) e) ∙ s))
+  due_lands c a (ToUnlock i key b j m d e) s = absurd (false≢true (sym (ap (λ (z : Call). is_publish (Some z) && was_published q a) e) ∙ s))
+
+  abbrev landing_on : ℕ → List Action
+  landing_on a = when_due (may_land q.kept.sent q.me (known q) a) a (Publish (stated_terms q.deal a))
+
+  when_in : (b : Bool) (a : ℕ) (c : Call) → b ≡ true → IsElement (record { arc = a; call = c }) (when_due b a c)
+  when_in true a c e = inl refl
+  when_in false a c e = absurd (cc e)
+
+  when_from : (b : Bool) (a : ℕ) (c : Call) (x : Action) → IsElement x (when_due b a c) → (b ≡ true) × (x.arc ≡ a)
+  when_from true a c x (inl e) = (refl, ap (λ (y : Action). y.arc) e)
+  when_from true a c x (inr i) = absurd i
+  when_from false a c x i = absurd i
+
+  lands : (a : ℕ) → IsElement a (leaving q.deal.graph q.me) → may_land q.kept.sent q.me (known q) a ≡ true
+      → (t : Timed) × IsElement t (landing_calls q) × (t.arc ≡ a)
+  lands a i e =
+      let x : Action = record { arc = a; call = Publish (stated_terms q.deal a) } in (
+        own_timed q x,
+        in_map (own_timed q) (landing_actions q) x
+            (in_flat_map landing_on (leaving q.deal.graph q.me) a x i (when_in (may_land q.kept.sent q.me (known q) a) a (Publish (stated_terms q.deal a)) e)),
+        refl,
+      )
+
+  landed : (t : Timed) → IsElement t (landing_calls q) → may_land q.kept.sent q.me (known q) t.arc ≡ true
+  landed t i =
+      let f = from_map (own_timed q) (landing_actions q) t i in
+      let g = from_flat_map landing_on (leaving q.deal.graph q.me) f.0 f.1 in
+      let w = when_from (may_land q.kept.sent q.me (known q) g.0) g.0 (Publish (stated_terms q.deal g.0)) f.0 g.2 in
+      ap (may_land q.kept.sent q.me (known q)) (ap (λ (z : Timed). z.arc) (sym f.2) ∙ w.1) ∙ w.0
+
+  none_there : {A : Type 0} (xs : List A) (x : A) → xs ≡ [] → IsElement x xs → ⊥
+  none_there xs x e i = subst (λ (ys : List _). IsElement x ys) e i
+
+  -- where nothing is answered, and nothing may land, nothing is useful but for stopped locks
+  nothing_left : IsNothingAnswered q → answerable_landing q (lands_at q) (known q) ≡ []
+  nothing_left none = nothing_in (answerable_landing q (lands_at q) (known q)) (λ x i. by x (from_answerable (lands_at q) (known q) x i) (is_sent_already x) refl)
+    where
+      by : (x : Action) → IsElement x (useful_actions q (known q)) × (is_out x ≡ false) → (b : Bool) → is_sent_already x ≡ b → ⊥
+      by x f false e = none_there (answered q) x (IsNothingAnswered.calls none) (to_answered x (record { useful = f.0; goes = f.1; unsent = e }))
+      by x f true e =
+          let d = useful_is_due q.deal q.me (lands_at q) (own_wallet q) (kept_keys q) (known q) x f.0 in
+          let l = due_lands x.call x.arc (case_here x d) e in
+          let t = lands x.arc l.0 l.1 in none_there (landing_calls q) t.0 (IsNothingAnswered.landing none) t.1
 
   -- ---- nothing is left out
 
-  stopped_or : (x : Action) → IsElement x (useful_actions q (known q)) → (b : Bool) → is_stopped_call (is_lock_unkept (unkept q)) x.call ≡ b
+  stopped_or : (x : Action) → IsElement x (useful_actions q (known q)) → is_sent_already x ≡ false → (b : Bool) → is_out x ≡ b
       → IsElement x (answered q) ⊎ IsLockUnkept q x
-  stopped_or x i true e = inr e
-  stopped_or x i false e = inl (to_answered x i e)
+  stopped_or x i s true e = inr e
+  stopped_or x i s false e = inl (to_answered x (record { useful = i; goes = e; unsent = s }))
 
-  answered_or : (x : Action) → IsElement x (due q.deal q.me (own_wallet q) (kept_keys q) (known q)) → IsElement x (answered q) ⊎ IsLeftOutAction q x
-  answered_or x i = go (only_harm_is_left_out q.deal q.me (own_wallet q) (kept_keys q) (known q) x i)
+  answered_or : (x : Action) → IsElement x (due q.deal q.me (own_wallet q) (kept_keys q) (known q)) → is_sent_already x ≡ false
+      → IsElement x (answered q) ⊎ IsLeftOutAction q x
+  answered_or x i s = go (only_harm_is_left_out q.deal q.me (lands_at q) (own_wallet q) (kept_keys q) (known q) x i)
     where
       by_stop : IsElement x (answered q) ⊎ IsLockUnkept q x → IsElement x (answered q) ⊎ IsLeftOutAction q x
       by_stop (inl j) = inl j
-      by_stop (inr s) = inr (inr s)
+      by_stop (inr t) = inr (inr t)
 
       go : IsElement x (useful_actions q (known q)) ⊎ CanOnlyHurt q x → IsElement x (answered q) ⊎ IsLeftOutAction q x
-      go (inl j) = by_stop (stopped_or x j (is_stopped_call (is_lock_unkept (unkept q)) x.call) refl)
+      go (inl j) = by_stop (stopped_or x j s (is_out x) refl)
       go (inr harm) = inr (inl harm)
 
-  all_made : (x : Action) → MayBeMade q x → was_sent (was_published q) x ≡ false → IsElement (Present (own_timed q x)) (answered_lines q) ⊎ IsLeftOutAction q x
-  all_made x may s = go (answered_or x (MayGo.is_due may))
+  all_made : (x : Action) → MayBeMade q x → is_sent_already x ≡ false → IsElement (Present (own_timed q x)) (answered_lines q) ⊎ IsLeftOutAction q x
+  all_made x may s = go (answered_or x (MayGo.is_due may) s)
     where
       go : IsElement x (answered q) ⊎ IsLeftOutAction q x → IsElement (Present (own_timed q x)) (answered_lines q) ⊎ IsLeftOutAction q x
       go (inr out) = inr out
       go (inl i) =
-          inl (to_present (kept_keys q) (was_published q) (answered_calls q) (own_timed q x) (to_calls x i) s (MayGo.was_kept may))
+          inl (to_present (kept_keys q) (answered_calls q) (own_timed q x) (to_calls x i) (MayGo.was_kept may))
 
   each_kept : (key : Hashkey) (may : MayBeKept q key)
       → ((t : Timed) × (other : Hashkey) × IsElement (KeepFirst t other) (answered_lines q) × (other.lock ≡ key.lock)) ⊎ IsLeftOutAction q (MayKeep.unlock may)
-  each_kept key may = go (answered_or (MayKeep.unlock may) (MayKeep.is_due may))
+  each_kept key may =
+      let unlock = kept_state (kept_keys q) (MayKeep.unlock may) key (MayKeep.asks may) in
+      let s : is_sent_already (MayKeep.unlock may) ≡ false =
+      ap (λ (c : Call). is_publish (Some c) && was_published q (Action.arc (MayKeep.unlock may))) unlock.0 in
+      go (answered_or (MayKeep.unlock may) (MayKeep.is_due may) s)
     where
       go : IsElement (MayKeep.unlock may) (answered q) ⊎ IsLeftOutAction q (MayKeep.unlock may)
           → ((t : Timed) × (other : Hashkey) × IsElement (KeepFirst t other) (answered_lines q) × (other.lock ≡ key.lock)) ⊎ IsLeftOutAction q (MayKeep.unlock may)
       go (inr out) = inr out
       go (inl i) =
           let unlock = kept_state (kept_keys q) (MayKeep.unlock may) key (MayKeep.asks may) in
-          let s : was_sent (was_published q) (MayKeep.unlock may) ≡ false =
-          ap (λ (c : Call). is_publish (Some c) && was_published q (Action.arc (MayKeep.unlock may))) unlock.0 in
-          inl (to_keep (kept_keys q) (was_published q) (answered_calls q) (own_timed q (MayKeep.unlock may)) key (to_calls (MayKeep.unlock may) i) s
+          inl (to_keep (kept_keys q) (answered_calls q) (own_timed q (MayKeep.unlock may)) key (to_calls (MayKeep.unlock may) i)
           (ap (is_kept (kept_keys q)) unlock.0 ∙ unlock.1) unlock.0)
 
   -- ---- heights
@@ -205,24 +294,33 @@ module _ (q : PartyQuestion) (sound : IsSound q) where
   has_height t i =
       let f = from_calls t i in
       subst (λ (z : Timed). HasHeight q.deal (known q) q.me (kept_keys q) (untimed z) z.last) f.2
-      (useful_has_height q.deal q.me (own_wallet q) (kept_keys q) (known q) f.0 sound.legal signs sound.good (from_answered f.0 f.1).0)
+      (useful_has_height q.deal q.me (lands_at q) (own_wallet q) (kept_keys q) (known q) f.0 sound.legal signs sound.good (from_answered f.0 f.1).useful)
 
   is_until : (t : Timed) (key : Hashkey) → IsElement t (answered_calls q) → t.call ≡ Unlock key → HasLastHeight q t key
   is_until t key i c =
       let f = from_calls t i in
+      let e : Action.call f.0 ≡ Unlock key = ap (λ (z : Timed). z.call) f.2 ∙ c in
+      let l =
+      unlocks_have_last q.deal q.me (lands_at q) (own_wallet q) (kept_keys q) (known q) f.0 key sound.legal sound.wallet signs sound.good
+      (from_answered f.0 f.1).useful e in
       subst (λ (z : Timed). HasLastHeight q z key) f.2
-      (unlocks_have_last q.deal q.me (own_wallet q) (kept_keys q) (known q) f.0 key sound.legal sound.wallet signs sound.good (from_answered f.0 f.1).0
-      (ap (λ (z : Timed). z.call) f.2 ∙ c))
+      (l.0, ap (last_helpful q.deal (Action.arc f.0)) e ∙ (ap (last_accepted q.deal (Action.arc f.0)) (sym e) ∙ l.1), l.2)
 
   -- ---- rest
 
-  stays_done : (h : Histories) → answered q ≡ [] → are_finished q.deal (known q) q.me ≡ true → IsLegalBook q.deal h → ContinuesWithoutParty q.me (known q) h
-      → answerable q h ≡ []
-  stays_done h none fin legal on = nothing_in (answerable q h) (λ x i.
-      let f = from_filter (λ y. not (is_stopped_call (is_lock_unkept (unkept q)) y.call)) x (useful_actions q h) i in
+  stays_waiting : (later : ℕ → ℕ) (a : ℕ) (more : List Entry) → IsNothingAnswered q → are_ticks more ≡ true → ((c : ℕ) → lands_at q c ≤ later c)
+      → IsWithinRest (rest_deadline q.deal q.me (known q)) (height (history (known q) a ++ more)) → answerable_landing q later (with_more q a more) ≡ []
+  stays_waiting later a more none ticks higher low =
+      ticks_leave_nothing q.deal q.me (lands_at q) later (own_wallet q) (kept_keys q) (is_lock_unkept (unkept q)) (known q) a more ticks higher
+      (nothing_left none) (stays_low q.deal q.me (known q) a more low)
+
+  stays_done : (later : ℕ → ℕ) (h : Histories) → IsNothingAnswered q → are_finished q.deal (known q) q.me ≡ true → IsLegalBook q.deal h
+      → ContinuesWithoutParty q.me (known q) h → ((c : ℕ) → lands_at q c ≤ later c) → answerable_landing q later h ≡ []
+  stays_done later h none fin legal on higher = nothing_in (answerable_landing q later h) (λ x i.
+      let f = from_answerable later h x i in
       let before =
-      finished_stays q.deal q.me (own_wallet q) (kept_keys q) (known q) h x sound.accepted sound.legal legal fin on f.0 in
-      subst (IsElement x) none (to_answered x before (not_true (is_stopped_call (is_lock_unkept (unkept q)) x.call) f.1)))
+      finished_stays q.deal q.me (lands_at q) later (own_wallet q) (kept_keys q) (known q) h x sound.accepted sound.legal legal fin on higher f.0 in
+      none_there (answerable_landing q (lands_at q) (known q)) x (nothing_left none) (to_answerable (lands_at q) (known q) x before f.1))
 
   pub holds : (asks : Result PartyQuestion AnswerReason) (a : Answer) → asks ≡ Ok q → a ≡ question_answer q → IsPromisedAnswer asks a
   unfolding due_text
@@ -234,20 +332,21 @@ module _ (q : PartyQuestion) (sound : IsSound q) where
     party = sound.party;
     wallet = sound.wallet;
     legal = sound.legal;
-    go = λ t i. let s = said (Present t) i in may_be_made t s.call (Present t) s.within s.says refl;
-    once = λ t i. let s = said (Present t) i in sent_once t s.call (Present t) s.says refl;
-    helps = λ t i. let s = said (Present t) i in is_helpful t s.call (Present t) s.within s.says refl;
+    go = may_be_made;
+    once = λ t i. (call_is t (presents t i).0).unsent;
+    helps = λ t i. (call_is t (presents t i).0).useful;
+    opens = opens;
     keep = λ t key i. let s = said (KeepFirst t key) i in may_be_kept t s.call key (KeepFirst t key) s.within s.says refl;
-    landing = λ c i. let s = said (Landing c) i in lands c s.call (Landing c) s.within s.says refl;
+    landing = landed;
+    lands = lands;
     all = all_made;
     each = each_kept;
-    heard = λ h says. sym (same_useful q.deal q.me (known q) h says (own_wallet q) (kept_keys q));
-    rest = λ c more none ticks low. ticks_make_nothing_useful q.deal q.me (own_wallet q) (kept_keys q) (known q) c more ticks none
-        (stays_low q.deal q.me (known q) c more low);
-    wait = λ c more none ticks low. ticks_leave_nothing q.deal q.me (own_wallet q) (kept_keys q) (is_lock_unkept (unkept q)) (known q) c more ticks none
-        (stays_low q.deal q.me (known q) c more low);
+    heard = λ at h says. sym (same_useful q.deal q.me (known q) h says at (own_wallet q) (kept_keys q));
+    rest = λ later c more none ticks higher low. ticks_make_nothing_useful q.deal q.me (lands_at q) later (own_wallet q) (kept_keys q) (known q) c more ticks
+        higher none (stays_low q.deal q.me (known q) c more low);
+    wait = stays_waiting;
     done = stays_done;
-    never_empty = never_empty q.deal (known q) q.me (kept_keys q) (was_published q) (answered_calls q);
+    never_empty = never_empty q.deal (known q) q.me (kept_keys q) (answered_calls q) (landing_calls q);
     by = has_height;
     until = is_until;
   }

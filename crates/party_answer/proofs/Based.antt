@@ -19,11 +19,9 @@ use Rattle.history_index.specs.Value.{IndexState}
 use Rattle.history_index.specs.Indexes.{all_entries, AreIndexes}
 use Rattle.swap_rules.specs.Party.{is_ready, opens_without_party}
 use Rattle.swap_rules.specs.Due.{Wallet, Action, due_key, due_arc_unlock, extended, has_called, unlocks_lock, may_unlock, presented, when_due}
-use Rattle.swap_rules.specs.Walking.{is_withheld, pressing_unlocks}
+use Rattle.swap_rules.specs.Useful.{is_withheld, pressing_unlocks, takes, timely_unlock}
 use Rattle.answer_rules.specs.Stopped.{unlocks_unless_stopped}
-use Rattle.swap_rules.proofs.Words.{leaves, flat_map_none}
-use Rattle.swap_rules.proofs.Useful.{none_pressing}
-use Rattle.due_calls.proofs.Unlocking.{not_ready}
+use Rattle.swap_rules.proofs.Words.{leaves}
 use Rattle.due_calls.proofs.Openings.{has_lock}
 use Rattle.due_calls.specs.declared.unlock_due.Base.{Base}
 use Rattle.due_calls.specs.declared.unlock_due.Base.TheVariants.{Signed, Own, Onto}
@@ -112,79 +110,106 @@ none_called true true a o e = refl
 none_called false true a o e = refl
 none_called ready false a o e = absurd (cc e)
 
--- none is due where the party made one on each entering arc
-pub all_called : (d : Deal) (v : ℕ) (w : Wallet) (signed : Option Hashkey) (k : Histories) (i : ℕ) (xs : List ℕ)
-    → list_all (λ a. has_called v (unlocks_lock i) (history k a)) xs ≡ true → flat_map (due_arc_unlock d v w signed k i) xs ≡ []
+-- where the arc takes the hashkey, the unlock that the ready party didn't make is due
+taken_unlock : (t called : Bool) (d : Deal) (v : ℕ) (w : Wallet) (signed : Option Hashkey) (k : Histories) (i a : ℕ) (key : Hashkey)
+    → has_called v (unlocks_lock i) (history k a) ≡ called → Some key ≡ due_key d v w signed k i → is_ready d k v ≡ true
+    → when_due (t && not called) a (Unlock key) ≡ cond t (due_arc_unlock d v w signed k i a) []
 unfolding due_arc_unlock
-all_called d v w signed k i xs e =
-    empty_flat (due_arc_unlock d v w signed k i) xs (λ a m. none_called (is_ready d k v) (has_called v (unlocks_lock i) (history k a)) a
-    (due_key d v w signed k i) (list_all-in (λ a. has_called v (unlocks_lock i) (history k a)) xs a e m))
+taken_unlock false called d v w signed k i a key c e ready = refl
+taken_unlock true called d v w signed k i a key c e ready =
+    ap₂ (λ (b : Bool) (o : Option Hashkey). cond (b && not called) (presented a o) []) (sym ready) e
+    ∙ ap (λ (b : Bool). cond (is_ready d k v && not b) (presented a (due_key d v w signed k i)) []) (sym c)
 
--- none is due without a hashkey
-pub without_key : (d : Deal) (v : ℕ) (w : Wallet) (signed : Option Hashkey) (k : Histories) (i : ℕ) (xs : List ℕ) → None ≡ due_key d v w signed k i
-    → flat_map (due_arc_unlock d v w signed k i) xs ≡ []
-unfolding due_arc_unlock
-without_key d v w signed k i xs e =
-    empty_flat (due_arc_unlock d v w signed k i) xs (λ a m. ap (λ o. cond (may_unlock d v k i a) (presented a o) []) (sym e)
-    ∙ none_presented (may_unlock d v k i a) a)
-
--- with a hashkey each that the ready party didn't make is due
-pub with_key : (d : Deal) (v : ℕ) (w : Wallet) (signed : Option Hashkey) (k : Histories) (i : ℕ) (xs : List ℕ) (key : Hashkey)
+-- with a hashkey each that the ready party didn't make and that its arc takes is timely
+pub with_key : (d : Deal) (v : ℕ) (at : ℕ → ℕ) (w : Wallet) (signed : Option Hashkey) (k : Histories) (i : ℕ) (xs : List ℕ) (key : Hashkey)
     → Some key ≡ due_key d v w signed k i → is_ready d k v ≡ true
-    → flat_map (λ a. when_due (not (has_called v (unlocks_lock i) (history k a))) a (Unlock key)) xs ≡ flat_map (due_arc_unlock d v w signed k i) xs
-unfolding due_arc_unlock
-with_key d v w signed k i xs key e ready =
+    → flat_map (λ a. when_due (takes d at k i (Some key) a && not (has_called v (unlocks_lock i) (history k a))) a (Unlock key)) xs
+    ≡ flat_map (timely_unlock d v at w signed k i) xs
+with_key d v at w signed k i xs key e ready =
     ap (λ (f : ℕ → List Action). flat_map f xs) (λ r a. (each a) r)
   where
-    each : (a : ℕ) → when_due (not (has_called v (unlocks_lock i) (history k a))) a (Unlock key) ≡ due_arc_unlock d v w signed k i a
+    each : (a : ℕ) → when_due (takes d at k i (Some key) a && not (has_called v (unlocks_lock i) (history k a))) a (Unlock key)
+        ≡ timely_unlock d v at w signed k i a
     each a =
-        ap₂ (λ (b : Bool) (o : Option Hashkey). cond (b && not (has_called v (unlocks_lock i) (history k a))) (presented a o) []) (sym ready) e
+        taken_unlock (takes d at k i (Some key) a) (has_called v (unlocks_lock i) (history k a)) d v w signed k i a key refl e ready
+        ∙ ap (λ (o : Option Hashkey). cond (takes d at k i o a) (due_arc_unlock d v w signed k i a) []) e
 
 pub nothing_more : {A : Type 0} (old new xs : List A) → new ≡ old → xs ≡ [] → new ≡ old ++ xs
 nothing_more old new xs e none = e ∙ (sym (append-nil old) ∙ ap (λ ys. old ++ ys) (sym none))
 
--- Locks that are stopped or withheld.
+-- Locks that are stopped, and hashkeys that are withheld.
 
 unless_none : (b : Bool) (xs : List Action) → xs ≡ [] → cond b [] xs ≡ []
 unless_none true xs e = refl
 unless_none false xs e = e
 
+if_none : (b : Bool) (xs : List Action) → xs ≡ [] → cond b xs [] ≡ []
+if_none true xs e = e
+if_none false xs e = refl
+
+-- where nothing is due for a lock nothing is timely
+none_timely : (d : Deal) (v : ℕ) (at : ℕ → ℕ) (w : Wallet) (signed : Option Hashkey) (k : Histories) (i : ℕ) (xs : List ℕ)
+    → ((a : ℕ) → IsElement a xs → due_arc_unlock d v w signed k i a ≡ []) → flat_map (timely_unlock d v at w signed k i) xs ≡ []
+none_timely d v at w signed k i xs none =
+    empty_flat (timely_unlock d v at w signed k i) xs (λ a m.
+    if_none (takes d at k i (due_key d v w signed k i) a) (due_arc_unlock d v w signed k i a) (none a m))
+
 -- nothing is useful for any lock where the party isn't ready
-pub none_unless : (stops : ℕ → Bool) (d : Deal) (v : ℕ) (w : Wallet) (signed : ℕ → Option Hashkey) (k : Histories) → is_ready d k v ≡ false
-    → flat_map (unlocks_unless_stopped stops d v w signed k) (locks d) ≡ []
-none_unless stops d v w signed k e =
-    empty_flat (unlocks_unless_stopped stops d v w signed k) (locks d) (λ i j.
-    unless_none (stops i) (pressing_unlocks d v w signed k i) (none_pressing d v w signed k i
-    (flat_map_none (λ i. flat_map (due_arc_unlock d v w (signed i) k i) (entering d.graph v)) (locks d) i (not_ready d v w signed k e) j)))
+pub none_unless : (stops : ℕ → Bool) (d : Deal) (v : ℕ) (at : ℕ → ℕ) (w : Wallet) (signed : ℕ → Option Hashkey) (k : Histories) → is_ready d k v ≡ false
+    → flat_map (unlocks_unless_stopped stops d v at w signed k) (locks d) ≡ []
+unfolding due_arc_unlock
+none_unless stops d v at w signed k e =
+    empty_flat (unlocks_unless_stopped stops d v at w signed k) (locks d) (λ i j.
+    unless_none (stops i) (pressing_unlocks d v at w signed k i)
+    (unless_none (is_withheld d v at signed k i (due_key d v w (signed i) k i)) (flat_map (timely_unlock d v at w (signed i) k i) (entering d.graph v))
+    (none_timely d v at w (signed i) k i (entering d.graph v) (λ a m.
+    ap (λ b. cond (b && not (has_called v (unlocks_lock i) (history k a))) (presented a (due_key d v w (signed i) k i)) []) e))))
+
+-- nothing is useful for a lock without a hashkey
+pub without_key : (d : Deal) (v : ℕ) (at : ℕ → ℕ) (w : Wallet) (signed : ℕ → Option Hashkey) (k : Histories) (i : ℕ)
+    → None ≡ due_key d v w (signed i) k i → pressing_unlocks d v at w signed k i ≡ []
+unfolding due_arc_unlock
+without_key d v at w signed k i e =
+    unless_none (is_withheld d v at signed k i (due_key d v w (signed i) k i)) (flat_map (timely_unlock d v at w (signed i) k i) (entering d.graph v))
+    (none_timely d v at w (signed i) k i (entering d.graph v) (λ a m.
+    ap (λ o. cond (may_unlock d v k i a) (presented a o) []) (sym e) ∙ none_presented (may_unlock d v k i a) a))
 
 module _ (stops : ℕ → Bool) (d : Deal) (v : ℕ) where
   abbrev is_silent : Histories → ℕ → Bool
-  is_silent k i = stops i || is_withheld d v k i || list_all (λ a. has_called v (unlocks_lock i) (history k a)) (entering d.graph v)
+  is_silent k i = stops i || list_all (λ a. has_called v (unlocks_lock i) (history k a)) (entering d.graph v)
 
   pub isnt_stopped : (k : Histories) (i : ℕ) → is_silent k i ≡ false → stops i ≡ false
-  isnt_stopped k i e = go (stops i) (is_withheld d v k i) (list_all (λ a. has_called v (unlocks_lock i) (history k a)) (entering d.graph v)) e
+  isnt_stopped k i e = go (stops i) (list_all (λ a. has_called v (unlocks_lock i) (history k a)) (entering d.graph v)) e
     where
-      go : (b c r : Bool) → (b || c || r) ≡ false → b ≡ false
-      go true c r e = absurd (cc e)
-      go false c r e = refl
+      go : (b r : Bool) → (b || r) ≡ false → b ≡ false
+      go true r e = absurd (cc e)
+      go false r e = refl
 
-  module _ (w : Wallet) (signed : ℕ → Option Hashkey) (k : Histories) (i : ℕ) where
-    abbrev for_lock : List Action
-    for_lock = flat_map (due_arc_unlock d v w (signed i) k i) (entering d.graph v)
+  module _ (at : ℕ → ℕ) (w : Wallet) (signed : ℕ → Option Hashkey) (k : Histories) (i : ℕ) where
+    -- nothing is useful where the party made an unlock on each entering arc
+    all_called : list_all (λ a. has_called v (unlocks_lock i) (history k a)) (entering d.graph v) ≡ true → pressing_unlocks d v at w signed k i ≡ []
+    unfolding due_arc_unlock
+    all_called e =
+        unless_none (is_withheld d v at signed k i (due_key d v w (signed i) k i)) (flat_map (timely_unlock d v at w (signed i) k i) (entering d.graph v))
+        (none_timely d v at w (signed i) k i (entering d.graph v) (λ a m.
+        none_called (is_ready d k v) (has_called v (unlocks_lock i) (history k a)) a (due_key d v w (signed i) k i)
+        (list_all-in (λ a. has_called v (unlocks_lock i) (history k a)) (entering d.graph v) a e m)))
 
-    pub silent : is_silent k i ≡ true → unlocks_unless_stopped stops d v w signed k i ≡ []
-    silent e = go (stops i) (is_withheld d v k i) e
+    pub silent : is_silent k i ≡ true → unlocks_unless_stopped stops d v at w signed k i ≡ []
+    silent e = go (stops i) e
       where
-        go : (b c : Bool) → (b || c || list_all (λ a. has_called v (unlocks_lock i) (history k a)) (entering d.graph v)) ≡ true
-            → cond b [] (cond c [] for_lock) ≡ []
-        go true c e = refl
-        go false true e = refl
-        go false false e = all_called d v w (signed i) k i (entering d.graph v) e
+        go : (b : Bool) → (b || list_all (λ a. has_called v (unlocks_lock i) (history k a)) (entering d.graph v)) ≡ true
+            → cond b [] (pressing_unlocks d v at w signed k i) ≡ []
+        go true e = refl
+        go false e = all_called e
 
-    pub spoken : is_silent k i ≡ false → for_lock ≡ unlocks_unless_stopped stops d v w signed k i
-    spoken e = go (stops i) (is_withheld d v k i) (list_all (λ a. has_called v (unlocks_lock i) (history k a)) (entering d.graph v)) e
-      where
-        go : (b c r : Bool) → (b || c || r) ≡ false → for_lock ≡ cond b [] (cond c [] for_lock)
-        go true c r e = absurd (cc e)
-        go false true r e = absurd (cc e)
-        go false false r e = refl
+    pub spoken : is_silent k i ≡ false → pressing_unlocks d v at w signed k i ≡ unlocks_unless_stopped stops d v at w signed k i
+    spoken e = ap (λ b. cond b [] (pressing_unlocks d v at w signed k i)) (sym (isnt_stopped k i e))
+
+-- what a hashkey that isn't withheld is presented with
+pub unwithheld : (d : Deal) (v : ℕ) (at : ℕ → ℕ) (w : Wallet) (signed : ℕ → Option Hashkey) (k : Histories) (i : ℕ) (key : Hashkey)
+    → Some key ≡ due_key d v w (signed i) k i → (b : Bool) → is_withheld d v at signed k i (Some key) ≡ b
+    → pressing_unlocks d v at w signed k i ≡ cond b [] (flat_map (timely_unlock d v at w (signed i) k i) (entering d.graph v))
+unwithheld d v at w signed k i key e b q =
+    ap (λ t. cond t [] (flat_map (timely_unlock d v at w (signed i) k i) (entering d.graph v)))
+    (ap (is_withheld d v at signed k i) (sym e) ∙ q)

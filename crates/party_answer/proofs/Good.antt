@@ -1,5 +1,5 @@
 -- Every hashkey that notes come to opens its lock on each arc that enters the party.
-use Rattle.std.proofs.Common.{◌≡◌, ◌≢◌, ◌⊎◌, ℕ, zero, suc, ◌==◌, nat_lt, Bool, true, false, cond, not, ◌&&◌, ◌||◌, List, [], ◌∷◌, ◌++◌, length, replicate, set}
+use Rattle.std.proofs.Common.{◌≡◌, ◌≢◌, ◌⊎◌, ℕ, zero, suc, ◌==◌, nat_lt, Bool, true, false, cond, not, ◌&&◌, ◌||◌, List, [], ◌∷◌, ◌++◌, filter, length, replicate, set}
 use Rattle.std.proofs.Common.{Option, Some, None, is_none, Result, Ok, Err, refl, sym, ap, ◌∙◌, subst, inl, inr, ltb-true, ltb-false}
 use Rattle.std.proofs.lemmas.Bool.{false≢true}
 use Rattle.std.proofs.lemmas.List.{get_or-set_same, get_or-set_other, set_past}
@@ -26,7 +26,7 @@ use Rattle.swap_rules.proofs.Prefixes.{same_or_not}
 use Rattle.swap_rules.proofs.Words.{enters, same_key-true}
 use Rattle.party_rows.specs.Lines.{nameless, following_line_number}
 use Rattle.party_answer.specs.declared.note.Note.{Note}
-use Rattle.party_answer.specs.declared.note.Note.TheVariants.{Keep, Sent}
+use Rattle.party_answer.specs.declared.note.Note.TheVariants.{Keep, Sent, Never}
 use Rattle.party_answer.specs.Kept.{KeptState, is_valid_answer, opens_first, may_be_kept, is_keepable, with_note, with_notes}
 use Rattle.party_answer.specs.NoteStates.{AreGoodKeptKeys}
 
@@ -100,9 +100,15 @@ module _ (d : Deal) (v : ℕ) where
   after_sent n k next a true good e = kept_by e good
   after_sent n k next a false good e = absurd (cc e)
 
+  after_never : (n : ℕ) (k next : KeptState) (a : ℕ) (b : Bool) → AreGoodKeptKeys d v k.keys
+      → cond b (Ok (record { keys = k.keys; sent = filter (λ c. not (c == a)) k.sent })) (Err (nameless (BadLine n))) ≡ Ok next → AreGoodKeptKeys d v next.keys
+  after_never n k next a true good e = kept_by e good
+  after_never n k next a false good e = absurd (cc e)
+
   with_good : (n : ℕ) (k next : KeptState) (x : Note) → AreGoodKeptKeys d v k.keys → with_note d v n k x ≡ Ok next → AreGoodKeptKeys d v next.keys
   with_good n k next (Keep key) good e = after_keep n k next key (is_keepable d v k.keys key) good refl e
   with_good n k next (Sent a) good e = after_sent n k next a (is_listed a (leaving d.graph v)) good e
+  with_good n k next (Never a) good e = after_never n k next a (is_listed a (leaving d.graph v)) good e
 
   after_note : (n : ℕ) (k final : KeptState) (x : Note) (xs : List Note) (r : Result KeptState Refusal) → AreGoodKeptKeys d v k.keys → with_note d v n k x ≡ r
       → (r >>= λ next. with_notes d v (following_line_number n) next xs) ≡ Ok final

@@ -6,4 +6,5 @@ pub mod Growing
 pub mod Joined
 pub mod Along
 pub mod Asking
+pub mod Counting
 pub mod Faults

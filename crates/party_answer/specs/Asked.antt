@@ -10,6 +10,7 @@ use Rattle.command_input.specs.declared.refusal.Refusal.{Refusal}
 use Rattle.command_input.specs.Refusal.{refusal}
 use Rattle.party_wallet.specs.Fits.{wrong_lock}
 use Rattle.told_ledgers.specs.declared.told_ledger.ToldLedger.{ToldLedger}
+use Rattle.swap_rules.specs.Counted.{all_counted}
 use Rattle.told_ledgers.specs.Telling.{ledgers_told, told_book}
 use Rattle.party_rows.specs.Lines.{ended_lines, nameless, following_line_number}
 use Rattle.party_rows.specs.Names.{party_named}
@@ -72,9 +73,13 @@ pub record PartyQuestion : Type 0 where
   pub ledgers : List ToldLedger
   pub kept : KeptState
 
--- what each ledger did so far
+-- what each ledger did so far, as it was told
+abbrev pub told : PartyQuestion → Histories
+told q = told_book q.ledgers
+
+-- what counts of it: the party's refused unlocks, claims and refunds are passed over
 abbrev pub known : PartyQuestion → Histories
-known q = told_book q.ledgers
+known q = all_counted q.me (told q)
 
 -- the party that is asked for: by its name, with its seed; the first note has that number
 unfoldable pub party_asked : ℕ → List ℕ → List ℕ → SaidState → Result (ℕ × KeptState) Refusal

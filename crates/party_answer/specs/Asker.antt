@@ -9,6 +9,7 @@ use Rattle.answer_rules.specs.Stopped.{unlocks_unless_stopped}
 use Rattle.party_wallet.specs.Value.{signed_hashkey}
 use Rattle.party_machine.specs.Wallet.{seed_wallet}
 use Rattle.party_answer.specs.Actions.{is_lock_stopped}
+use Rattle.party_answer.specs.Landing.{landing_height}
 use Rattle.party_answer.specs.declared.asker.Asker.{Asker}
 
 -- the entries that it knows, by arc
@@ -23,6 +24,10 @@ asker_wallet p = seed_wallet p.signer.seed.now p.me p.deal.now
 abbrev pub asker_key : Asker → ℕ → Option Hashkey
 asker_key p = signed_hashkey p.signer.kept.now.keys
 
+-- at which height a call lands that it presents now
+abbrev pub asker_at : Asker → ℕ → ℕ
+asker_at p = landing_height (known_entries p) p.told.now
+
 -- whether a lock is stopped for it
 abbrev pub is_stopped : Asker → ℕ → Bool
 is_stopped p = is_lock_stopped p.signer.stopped.now
@@ -33,7 +38,7 @@ has_unlocked p i a = has_called p.me (unlocks_lock i) (history (known_entries p)
 
 -- the unlocks for lock i that are useful to it, none where the lock is stopped
 abbrev pub asker_unlocks : Asker → ℕ → List Action
-asker_unlocks p = unlocks_unless_stopped (is_stopped p) p.deal.now p.me (asker_wallet p) (asker_key p) (known_entries p)
+asker_unlocks p = unlocks_unless_stopped (is_stopped p) p.deal.now p.me (asker_at p) (asker_wallet p) (asker_key p) (known_entries p)
 
 -- It is a party of its deal, knows a legal book of it, and has a place for each lock's hashkey.
 pub record IsDealAsker (p : Asker) : Type 0 where

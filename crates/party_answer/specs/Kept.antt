@@ -1,5 +1,5 @@
 -- What a wallet's notes keep for a party of a deal.
-use Rattle.std.specs.Prelude.{ℕ, Bool, true, false, ◌&&◌, ◌||◌, nat_lt, List, [], ◌∷◌, ◌++◌, length, replicate, slice_set, Option, Some, None, is_none}
+use Rattle.std.specs.Prelude.{ℕ, Bool, true, false, not, filter, ◌==◌, ◌&&◌, ◌||◌, nat_lt, List, [], ◌∷◌, ◌++◌, length, replicate, slice_set, Option, Some, None, is_none}
 use Rattle.std.specs.Prelude.{Result, Ok, Err, if◌then◌else◌}
 use Rattle.swap_base.specs.Fault.{◌>>=◌}
 use Rattle.swap_digraph.specs.Graph.{entering, leaving, is_listed}
@@ -15,13 +15,13 @@ use Rattle.party_wallet.specs.Value.{signed_hashkey}
 use Rattle.swap_rules.specs.Conduct.{is_first_key}
 use Rattle.party_rows.specs.Lines.{nameless, following_line_number}
 use Rattle.party_answer.specs.declared.note.Note.{Note}
-use Rattle.party_answer.specs.declared.note.Note.TheVariants.{Keep, Sent}
+use Rattle.party_answer.specs.declared.note.Note.TheVariants.{Keep, Sent, Never}
 
 -- What was kept and sent.
 pub record KeptState : Type 0 where
   -- for each lock the hashkey that was kept, if any
   pub keys : List (Option Hashkey)
-  -- the arcs on which a publish was sent, or may have been; one may stand here twice
+  -- the arcs on which a publish was sent, or may have been, and may land; one may stand here twice
   pub sent : List ℕ
 
 abbrev pub no_notes_kept : Deal → KeptState
@@ -55,6 +55,8 @@ abbrev pub with_note : Deal → ℕ → ℕ → KeptState → Note → Result Ke
 with_note d v n k (Keep key) =
     if is_keepable d v k.keys key then Ok (record { keys = slice_set k.keys key.lock (Some key); sent = k.sent }) else Err (nameless (BadLine n))
 with_note d v n k (Sent a) = if is_listed a (leaving d.graph v) then Ok (record { keys = k.keys; sent = k.sent ++ a ∷ [] }) else Err (nameless (BadLine n))
+with_note d v n k (Never a) =
+    if is_listed a (leaving d.graph v) then Ok (record { keys = k.keys; sent = filter (λ b. not (b == a)) k.sent }) else Err (nameless (BadLine n))
 
 -- what is kept with further notes, where the first of them is line n
 abbrev pub with_notes : Deal → ℕ → ℕ → KeptState → List Note → Result KeptState Refusal

@@ -1,4 +1,5 @@
 pub mod Actions
+pub mod Landing
 pub mod Asker
 pub mod Notes
 pub mod Kept

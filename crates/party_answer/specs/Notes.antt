@@ -1,5 +1,5 @@
--- What a wallet wrote down, a line each, in any order: the lines before the first that begins with
--- neither word.
+-- What a wallet wrote down, a line each: the lines before the first that begins with none of these
+-- words.
 use Rattle.std.specs.Prelude.{ℕ, Bool, false, ◌||◌, List, [], ◌∷◌, ◌++◌, codes, Result, Ok, if◌then◌else◌}
 use Rattle.swap_base.specs.Fault.{◌>>=◌}
 use Rattle.command_input.specs.declared.refusal.Refusal.{Refusal}
@@ -10,7 +10,7 @@ use Rattle.transcript_book.specs.Reading.{is_word, nothing_more}
 use Rattle.party_rows.specs.Lines.{following_line_number, or_bad_line}
 use Rattle.party_rows.specs.Digests.{this_word}
 use Rattle.party_answer.specs.declared.note.Note.{Note}
-use Rattle.party_answer.specs.declared.note.Note.TheVariants.{Keep, Sent}
+use Rattle.party_answer.specs.declared.note.Note.TheVariants.{Keep, Sent, Never}
 
 -- `by B until U`, and the fields after it: the heights are numbers that are read and not used
 unfoldable pub heights_told : List (List ℕ) → Result (Unit {0} × List (List ℕ)) Misspelling
@@ -39,8 +39,19 @@ sent_noted ws = do
   u ← nothing_more arc.1
   Ok (Sent arc.0)
 
+-- `ARC`: the publishes that went out on that arc can't land
+unfoldable pub never_noted : List (List ℕ) → Result Note Misspelling
+never_noted ws = do
+  arc ← parse_first_field (bounded_number 256) ws
+  u ← nothing_more arc.1
+  Ok (Never arc.0)
+
 abbrev pub pick_note : List ℕ → List (List ℕ) → Result Note Misspelling
-pick_note w ws = if is_word w (codes "keep") then keep_noted ws else if is_word w (codes "sent") then sent_noted ws else misspelt
+pick_note w ws =
+    if is_word w (codes "keep") then keep_noted ws
+    else if is_word w (codes "sent") then sent_noted ws
+    else if is_word w (codes "never") then never_noted ws
+    else misspelt
 
 -- what the fields of a line note
 unfoldable pub words_noted : List (List ℕ) → Result Note Misspelling
@@ -54,9 +65,9 @@ line_noted n line = or_bad_line n (words_noted (separated_parts 32 line))
 
 abbrev pub begins_note : List (List ℕ) → Bool
 begins_note [] = false
-begins_note (w ∷ ws) = is_word w (codes "keep") || is_word w (codes "sent")
+begins_note (w ∷ ws) = is_word w (codes "keep") || is_word w (codes "sent") || is_word w (codes "never")
 
--- the first word of the line is `keep` or `sent`
+-- the first word of the line is `keep`, `sent` or `never`
 unfoldable pub is_note : List ℕ → Bool
 is_note line = begins_note (separated_parts 32 line)
 

@@ -3,8 +3,12 @@ use Rattle.std.specs.Prelude.{◌≡◌, ◌≢◌, ◌⊎◌, ◌<◌, ◌≤�
 use Rattle.swap_base.specs.declared.fault.Fault.{Fault}
 use Rattle.swap_base.specs.Fault.{Gives}
 use Rattle.swap_base.specs.Lists.{IsElement}
+use Rattle.time_bounds.specs.Times as times
+use Rattle.swap_digraph.specs.Graph.{leaving}
 use Rattle.hashkey_path.specs.declared.hashkey.Hashkey.{Hashkey}
-use Rattle.ledger_core.specs.declared.entry.Call.TheVariants.{Unlock}
+use Rattle.escrow_core.specs.declared.terms.Terms.{Terms}
+use Rattle.escrow_core.specs.Terms.{stated_terms}
+use Rattle.ledger_core.specs.declared.entry.Call.TheVariants.{Publish, Unlock}
 use Rattle.ledger_core.specs.declared.entry.Entry.{Entry}
 use Rattle.ledger_core.specs.History.{height}
 use Rattle.ledger_core.specs.Book.{Histories, history, IsLegalBook}
@@ -13,8 +17,8 @@ use Rattle.swap_rules.specs.Due.{Action}
 use Rattle.swap_rules.specs.Useful.{IsHarmful}
 use Rattle.swap_rules.specs.Machine.{IsWallet}
 use Rattle.swap_rules.specs.Rest.{are_ticks, rest_deadline}
-use Rattle.wallet_promise.specs.Life.{Asking, MayGo, MayKeep}
-use Rattle.wallet_promise.specs.Answers.{was_sent}
+use Rattle.wallet_promise.specs.Life.{Asking}
+use Rattle.wallet_promise.specs.Answers.{MayGo, MayKeep, was_sent}
 use Rattle.wallet_promise.specs.WithoutNoise.{SayEnough}
 use Rattle.answer_rules.specs.Heights.{HasHeight}
 use Rattle.answer_rules.specs.Finished.{are_finished, ContinuesWithoutParty}
@@ -23,15 +27,17 @@ use Rattle.answer_rules.specs.Laws.{IsLastHeight}
 use Rattle.party_answer.specs.declared.reason.AnswerReason.{AnswerReason}
 use Rattle.party_answer.specs.declared.reason.AnswerReason.TheVariants.{NotAgreed}
 use Rattle.party_answer.specs.declared.given.Answer.{Answer}
-use Rattle.party_answer.specs.Asked.{PartyQuestion, SaidState, asked, known, text_said}
+use Rattle.party_answer.specs.Asked.{PartyQuestion, SaidState, asked, known, text_said, told}
+use Rattle.party_answer.specs.Landing.{may_land}
 use Rattle.party_answer.specs.Unkept.{is_lock_unkept}
 use Rattle.party_answer.specs.declared.timed.Timed.{Timed}
-use Rattle.party_answer.specs.Lines.{Present, KeepFirst, Landing, timed, untimed}
-use Rattle.party_answer.specs.Text.{answerable, answered, answered_calls, due_text, kept_keys, answered_lines, own_wallet, question_answer, unkept, useful_actions, was_published}
+use Rattle.party_answer.specs.Lines.{Present, KeepFirst, timed, untimed}
+use Rattle.party_answer.specs.Text.{answerable_landing, answered, answered_calls, due_text, kept_keys, answered_lines, landing_calls, lands_at, own_wallet, question_answer}
+use Rattle.party_answer.specs.Text.{unkept, useful_actions, useful_landing, was_published}
 
 -- what the wallet hands over
 abbrev pub own_asking : PartyQuestion → Asking
-own_asking q = record { known = known q; kept = kept_keys q }
+own_asking q = record { known = told q; kept = kept_keys q }
 
 -- the call may go out
 abbrev pub MayBeMade : PartyQuestion → Action → Type 0
@@ -45,7 +51,7 @@ MayBeKept q key = MayKeep q.deal q.me (own_wallet q) (own_asking q) key
 -- in the party's name that it never made.
 
 abbrev pub CanOnlyHurt : PartyQuestion → Action → Type 0
-CanOnlyHurt q x = IsHarmful q.deal q.me (own_wallet q) (kept_keys q) (known q) x
+CanOnlyHurt q x = IsHarmful q.deal q.me (lands_at q) (own_wallet q) (kept_keys q) (known q) x
 
 abbrev pub IsLockUnkept : PartyQuestion → Action → Type 0
 IsLockUnkept q x = is_stopped_call (is_lock_unkept (unkept q)) x.call ≡ true
@@ -61,6 +67,15 @@ IsWithinRest (Some end) at = at ≤ end
 -- the ledger of arc a with more entries
 abbrev pub with_more : PartyQuestion → ℕ → List Entry → Histories
 with_more q a more = set (known q) a (history (known q) a ++ more)
+
+-- the publish has the correct terms, and lands by the height by which contracts open
+abbrev pub OpensInTime : PartyQuestion → Timed → Terms → Type 0
+OpensInTime q t terms = (terms ≡ stated_terms q.deal t.arc) × (lands_at q t.arc ≤ times.opening_deadline q.deal.start q.deal.delta q.deal.bound)
+
+-- no call is answered, no hashkey has to be kept, and no publish that was sent may land
+pub record IsNothingAnswered (q : PartyQuestion) : Type 0 where
+  pub calls : answered q ≡ []
+  pub landing : landing_calls q ≡ []
 
 -- up to which height the contract accepts the hashkey of an unlock
 abbrev pub HasLastHeight : PartyQuestion → Timed → Hashkey → Type 0
@@ -84,11 +99,14 @@ pub record IsPromisedAnswer (asks : Result PartyQuestion AnswerReason) (answer :
   pub go : (t : Timed) → IsElement (Present t) (answered_lines question) → MayBeMade question (untimed t)
   pub once : (t : Timed) → IsElement (Present t) (answered_lines question) → was_sent (was_published question) (untimed t) ≡ false
   pub helps : (t : Timed) → IsElement (Present t) (answered_lines question) → IsElement (untimed t) (useful_actions question (known question))
+  -- each publish in it has the correct terms, and lands by the height by which contracts open
+  pub opens : (t : Timed) (terms : Terms) → IsElement (Present t) (answered_lines question) → t.call ≡ Publish terms → OpensInTime question t terms
   -- each hashkey in it may be kept
   pub keep : (t : Timed) (key : Hashkey) → IsElement (KeepFirst t key) (answered_lines question) → MayBeKept question key
-  -- each publish that is landing is useful, and was sent
-  pub landing : (a : ℕ) → IsElement (Landing a) (answered_lines question)
-      → (x : Action) × IsElement x (useful_actions question (known question)) × (was_sent (was_published question) x ≡ true) × (x.arc ≡ a)
+  -- what is landing was sent, and no publish of the party is told there; and each of these is told
+  pub landing : (t : Timed) → IsElement t (landing_calls question) → may_land question.kept.sent question.me (known question) t.arc ≡ true
+  pub lands : (a : ℕ) → IsElement a (leaving question.deal.graph question.me) → may_land question.kept.sent question.me (known question) a ≡ true
+      → (t : Timed) × IsElement t (landing_calls question) × (t.arc ≡ a)
   -- only three kinds of calls that may go out are left out: publishes that were sent, calls that
   -- can only hurt the party, and unlocks for a lock with an unlock in the party's name that it
   -- never made. For each other lock for which a hashkey may be kept it has such a hashkey.
@@ -98,19 +116,22 @@ pub record IsPromisedAnswer (asks : Result PartyQuestion AnswerReason) (answer :
       → ((t : Timed) × (other : Hashkey) × IsElement (KeepFirst t other) (answered_lines question) × (other.lock ≡ key.lock)) ⊎ IsLeftOutAction question (MayKeep.unlock may)
   -- where the told ledgers say enough of some histories, the same actions are useful over these, so
   -- noise may be left out
-  pub heard : (h : Histories) → SayEnough question.deal question.me (known question) h → useful_actions question h ≡ useful_actions question (known question)
-  -- where nothing is useful, or nothing is answered, ticks of a ledger change nothing of that up to
-  -- the height at which rest ends
-  pub rest : (a : ℕ) (more : List Entry) → useful_actions question (known question) ≡ [] → are_ticks more ≡ true
+  pub heard : (at : ℕ → ℕ) (h : Histories) → SayEnough question.deal question.me (known question) h
+      → useful_landing question at h ≡ useful_landing question at (known question)
+  -- where nothing is useful, or nothing is answered and nothing may land, ticks of a ledger change
+  -- nothing of that up to the height at which rest ends, though calls land higher then
+  pub rest : (later : ℕ → ℕ) (a : ℕ) (more : List Entry) → useful_actions question (known question) ≡ [] → are_ticks more ≡ true
+      → ((c : ℕ) → lands_at question c ≤ later c)
       → IsWithinRest (rest_deadline question.deal question.me (known question)) (height (history (known question) a ++ more))
-      → useful_actions question (with_more question a more) ≡ []
-  pub wait : (a : ℕ) (more : List Entry) → answered question ≡ [] → are_ticks more ≡ true
+      → useful_landing question later (with_more question a more) ≡ []
+  pub wait : (later : ℕ → ℕ) (a : ℕ) (more : List Entry) → IsNothingAnswered question → are_ticks more ≡ true → ((c : ℕ) → lands_at question c ≤ later c)
       → IsWithinRest (rest_deadline question.deal question.me (known question)) (height (history (known question) a ++ more))
-      → answerable question (with_more question a more) ≡ []
+      → answerable_landing question later (with_more question a more) ≡ []
   -- where the party is done nothing is answered, whatever lands on any ledger without calls of the
   -- party
-  pub done : (h : Histories) → answered question ≡ [] → are_finished question.deal (known question) question.me ≡ true → IsLegalBook question.deal h
-      → ContinuesWithoutParty question.me (known question) h → answerable question h ≡ []
+  pub done : (later : ℕ → ℕ) (h : Histories) → IsNothingAnswered question → are_finished question.deal (known question) question.me ≡ true
+      → IsLegalBook question.deal h → ContinuesWithoutParty question.me (known question) h → ((c : ℕ) → lands_at question c ≤ later c)
+      → answerable_landing question later h ≡ []
   -- it tells what is due, or that nothing is
   pub never_empty : due_text question ≢ []
   -- each height in it is the last one for a call to be on time, or the last one for a contract to

@@ -1,14 +1,16 @@
 -- The text that answers a question, line by line.
-use Rattle.std.specs.Prelude.{ℕ, ◌+◌, Bool, not, ◌||◌, ◌==◌, List, [], ◌∷◌, ◌++◌, map, codes, decimal, Option, Some, None, is_some, length, Result, Ok, if◌then◌else◌}
+use Rattle.std.specs.Prelude.{ℕ, ◌+◌, Bool, not, ◌||◌, ◌==◌, List, [], ◌∷◌, ◌++◌, map, filter, codes, decimal, Option, Some, None, is_some, length, Result, Ok, if◌then◌else◌}
 use Rattle.std.specs.List.{flat_map, list_any}
 use Rattle.hex.specs.Hex.{encode_lower}
 use Rattle.swap_base.specs.Fault.{◌>>=◌}
 use Rattle.swap_base.specs.Text.{joined}
-use Rattle.swap_digraph.specs.Graph.{is_listed}
+use Rattle.swap_digraph.specs.Graph.{is_listed, leaving}
 use Rattle.swap_digraph.specs.declared.deal.Deal.{Deal}
 use Rattle.hashkey_path.specs.declared.hashkey.Hashkey.{Hashkey}
+use Rattle.escrow_core.specs.Terms.{stated_terms}
+use Rattle.ledger_core.specs.declared.entry.Call.TheVariants.{Publish}
 use Rattle.ledger_core.specs.Book.{Histories}
-use Rattle.swap_rules.specs.Due.{Action, Wallet}
+use Rattle.swap_rules.specs.Due.{Action, Wallet, when_due}
 use Rattle.swap_rules.specs.Useful.{useful}
 use Rattle.swap_rules.specs.Rest.{rest_deadline}
 use Rattle.command_input.specs.Words.{reply_text}
@@ -16,6 +18,7 @@ use Rattle.party_wallet.specs.Value.{signed_hashkey}
 use Rattle.party_machine.specs.Wallet.{seed_wallet}
 use Rattle.transcript_book.specs.Between.{spaced}
 use Rattle.transcript_book.specs.Words.{call_words, list_word, signature_word}
+use Rattle.wallet_promise.specs.Answers.{was_sent}
 use Rattle.answer_rules.specs.Finished.{are_finished}
 use Rattle.answer_rules.specs.Stopped.{unstopped}
 use Rattle.told_ledgers.specs.declared.told_ledger.BadEntry.{BadEntry}
@@ -25,9 +28,12 @@ use Rattle.party_answer.specs.declared.reason.AnswerReason.{AnswerReason}
 use Rattle.party_answer.specs.declared.given.Answer.{Answer}
 use Rattle.party_answer.specs.declared.unkept.Unkept.{Unkept}
 use Rattle.party_answer.specs.Asked.{PartyQuestion, SaidState, asked, by_refusal, known, lines_said, said_asked}
+use Rattle.party_answer.specs.Landing.{landing_height, may_land}
 use Rattle.party_answer.specs.Unkept.{all_unkept, is_lock_unkept}
+use Rattle.party_answer.specs.declared.line.Part.{Part}
+use Rattle.party_answer.specs.declared.line.Part.TheVariants.{Keeps, Calls}
 use Rattle.party_answer.specs.declared.timed.Timed.{Timed}
-use Rattle.party_answer.specs.Lines.{Line, Present, KeepFirst, Landing, call_lines, timed}
+use Rattle.party_answer.specs.Lines.{Line, Present, KeepFirst, call_lines, timed}
 
 -- ---- what goes by a question
 
@@ -43,22 +49,34 @@ was_published q a = is_listed a q.kept.sent
 abbrev pub own_wallet : PartyQuestion → Wallet
 own_wallet q = seed_wallet q.seed q.me q.deal
 
+-- at which height a call lands that is presented now
+abbrev pub lands_at : PartyQuestion → ℕ → ℕ
+lands_at q = landing_height (known q) q.ledgers
+
+-- all that is useful over other ledgers, where calls land at other heights
+abbrev pub useful_landing : PartyQuestion → (ℕ → ℕ) → Histories → List Action
+useful_landing q at k = useful q.deal q.me at (own_wallet q) (kept_keys q) k
+
 -- all that is useful over other ledgers
 abbrev pub useful_actions : PartyQuestion → Histories → List Action
-useful_actions q k = useful q.deal q.me (own_wallet q) (kept_keys q) k
+useful_actions q k = useful_landing q (lands_at q) k
 
 -- the unlocks in the party's name that it never made
 abbrev pub unkept : PartyQuestion → List Unkept
 unkept q = all_unkept (kept_keys q) q.ledgers
 
--- what is useful over other ledgers, without unlocks for a lock with an unlock in the party's name
--- that it never made
-abbrev pub answerable : PartyQuestion → Histories → List Action
-answerable q k = unstopped (is_lock_unkept (unkept q)) (useful_actions q k)
+-- what is useful over other ledgers, where calls land at other heights, without unlocks for a lock
+-- with an unlock in the party's name that it never made
+abbrev pub answerable_landing : PartyQuestion → (ℕ → ℕ) → Histories → List Action
+answerable_landing q at k = unstopped (is_lock_unkept (unkept q)) (useful_landing q at k)
+
+-- without publishes that were sent
+abbrev pub unsent : PartyQuestion → List Action → List Action
+unsent q xs = filter (λ x. not (was_sent (was_published q) x)) xs
 
 -- what is answered
 abbrev pub answered : PartyQuestion → List Action
-answered q = answerable q (known q)
+answered q = unsent q (answerable_landing q (lands_at q) (known q))
 
 -- with its heights
 abbrev pub answered_calls : PartyQuestion → List Timed
@@ -66,7 +84,15 @@ answered_calls q = map (timed q.deal (known q) q.me) (answered q)
 
 -- line by line
 abbrev pub answered_lines : PartyQuestion → List Line
-answered_lines q = call_lines (kept_keys q) (was_published q) None (answered_calls q)
+answered_lines q = call_lines (kept_keys q) None (answered_calls q)
+
+-- the publishes that may land, by leaving arc
+abbrev pub landing_actions : PartyQuestion → List Action
+landing_actions q = flat_map (λ a. when_due (may_land q.kept.sent q.me (known q) a) a (Publish (stated_terms q.deal a))) (leaving q.deal.graph q.me)
+
+-- with their heights
+abbrev pub landing_calls : PartyQuestion → List Timed
+landing_calls q = map (timed q.deal (known q) q.me) (landing_actions q)
 
 -- ---- of ledgers that can't be told on
 
@@ -113,14 +139,20 @@ unfoldable pub keep_text : Timed → Hashkey → List ℕ
 keep_text t key =
     joined (codes "keep " ∷ decimal key.lock ∷ codes " by " ∷ decimal t.last ∷ until_text t.until ∷ codes " " ∷ key_text key ∷ codes "\n" ∷ [])
 
--- a publish that was sent and hasn't landed
-unfoldable pub landing_text : ℕ → List ℕ
-landing_text a = joined (codes "landing " ∷ decimal a ∷ codes "\n" ∷ [])
+-- a publish that was sent and may land
+unfoldable pub landing_text : Timed → List ℕ
+landing_text t = joined (codes "landing " ∷ decimal t.arc ∷ codes " by " ∷ decimal t.last ∷ until_text t.until ∷ codes "\n" ∷ [])
 
-abbrev pub line_text : ℕ → Line → List ℕ
-line_text v (Present t) = presented_call_text v t
-line_text v (KeepFirst t key) = keep_text t key
-line_text v (Landing a) = landing_text a
+-- the lines of hashkeys, or those of calls
+abbrev pub line_text : Part → ℕ → Line → List ℕ
+line_text Keeps v (Present t) = []
+line_text Keeps v (KeepFirst t key) = keep_text t key
+line_text Calls v (Present t) = presented_call_text v t
+line_text Calls v (KeepFirst t key) = []
+
+-- the lines of hashkeys, and behind them those of calls
+abbrev pub lines_text : ℕ → List Line → List ℕ
+lines_text v ys = flat_map (line_text Keeps v) ys ++ flat_map (line_text Calls v) ys
 
 -- ---- of rest
 
@@ -133,10 +165,11 @@ wait_text (Some height) = joined (codes "wait " ∷ decimal height ∷ codes "\n
 unfoldable pub rest_text : Deal → Histories → ℕ → List ℕ
 rest_text d k v = if are_finished d k v then codes "done\n" else wait_text (rest_deadline d v k)
 
--- where nothing is answered
-abbrev pub end_text : Deal → Histories → ℕ → List Timed → List ℕ
-end_text d k v [] = rest_text d k v
-end_text d k v (t ∷ ts) = []
+-- where nothing is answered, and nothing may land
+abbrev pub end_text : Deal → Histories → ℕ → (calls landing : List Timed) → List ℕ
+end_text d k v [] [] = rest_text d k v
+end_text d k v [] (u ∷ us) = []
+end_text d k v (t ∷ ts) us = []
 
 -- ---- the whole
 
@@ -144,9 +177,11 @@ end_text d k v (t ∷ ts) = []
 unfoldable pub warning_text : PartyQuestion → List ℕ
 warning_text q = bad_lines 0 q.ledgers ++ flat_map unkept_text (unkept q)
 
--- the calls, or that there is none
+-- the hashkeys, the calls and what may land, or that there is none
 unfoldable pub due_text : PartyQuestion → List ℕ
-due_text q = flat_map (line_text q.me) (answered_lines q) ++ end_text q.deal (known q) q.me (answered_calls q)
+due_text q =
+    lines_text q.me (answered_lines q) ++ flat_map landing_text (landing_calls q)
+    ++ end_text q.deal (known q) q.me (answered_calls q) (landing_calls q)
 
 -- a ledger has a bad entry, or an unlock stands in the party's name that it never made
 unfoldable pub warns : PartyQuestion → Bool

@@ -8,6 +8,7 @@ ghost use Rattle.answer_rules.specs.Stopped.{useful_unless_stopped};
 ghost use Rattle.party_wallet.specs.Value.{signed_hashkey};
 ghost use Rattle.party_machine.specs.Wallet.{seed_wallet};
 ghost use Rattle.party_answer.specs.Actions.{actions, is_lock_stopped};
+ghost use Rattle.party_answer.specs.Landing.{landing_height};
 
 use crate::asker::Asker;
 use crate::due_call::DueCall;
@@ -19,9 +20,10 @@ use history_index::Index;
 use std::alloc::Global;
 use swap_base::{NoMemory, PartyId};
 use swap_digraph::Deal;
+use told_ledgers::ToldLedger;
 
-/// All calls that are useful to the party with that seed and the hashkeys that it kept, in their
-/// order. Unlocks for stopped locks are left out. A hashkey is signed where an unlock with it is
+/// All calls that are useful to the party with that seed and the hashkeys that it kept, by what was
+/// told of each ledger and of its chain, in their order. Unlocks for stopped locks are left out. A hashkey is signed where an unlock with it is
 /// useful, its lock isn't stopped, and none was kept for it.
 #[tactic(auto, unfolding(answer_rules::specs::Stopped::useful_unless_stopped))]
 pub fn all_useful(
@@ -30,6 +32,7 @@ pub fn all_useful(
     me: PartyId,
     signer: &Signer<'_>,
     known: &[Index],
+    told: &[ToldLedger],
 ) -> Result<Vec<DueCall>, NoMemory>
     requires sized { IsWellSized deal.now }
     requires me { me < deal.now.graph.n }
@@ -37,7 +40,7 @@ pub fn all_useful(
     requires legal { IsLegalBook deal.now (all_entries known.now) }
     requires kept { length signer.now.kept.now.keys ≡ length deal.now.leaders }
     ensures useful { IfOk result (λ v. actions v.items
-        ≡ useful_unless_stopped (is_lock_stopped signer.now.stopped.now) deal.now me (seed_wallet signer.now.seed.now me deal.now)
+        ≡ useful_unless_stopped (is_lock_stopped signer.now.stopped.now) deal.now me (landing_height (all_entries known.now) told.now) (seed_wallet signer.now.seed.now me deal.now)
         (signed_hashkey signer.now.kept.now.keys) (all_entries known.now)) }
 {
     let asker = Asker {
@@ -45,6 +48,7 @@ pub fn all_useful(
         me,
         signer: *signer,
         known,
+        told,
     };
     let mut calls = Vec::new(alloc);
     put_publishes(alloc, &asker, &mut calls)?;

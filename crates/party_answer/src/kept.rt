@@ -1,6 +1,6 @@
 //! What a party's notes keep.
 
-ghost use Rattle.std.specs.Prelude.{◌≡◌, ◌<◌, true, IfOk, length, option_copied, replicate, None};
+ghost use Rattle.std.specs.Prelude.{◌≡◌, ◌<◌, ◌==◌, true, not, filter, IfOk, length, option_copied, replicate, None};
 ghost use Rattle.swap_base.specs.Fault.{Gives};
 ghost use Rattle.swap_digraph.specs.Deal.{IsWellSized};
 ghost use Rattle.swap_digraph.specs.Graph.{entering, is_listed, leaving};
@@ -24,7 +24,7 @@ use swap_digraph::Deal;
 pub struct Kept {
     /// For each lock the hashkey that it kept.
     pub signed: Signed,
-    /// The arcs on which a publish was sent.
+    /// The arcs on which a publish was sent that may land.
     pub sent: Listed<ArcId>,
 }
 
@@ -91,6 +91,19 @@ fn leaves(deal: &Deal, me: PartyId, arc: ArcId) -> bool
     deal.graph.leaving(me).iter().any(|other| *other == arc)
 }
 
+/// The arcs but this one.
+fn without_arc(alloc: Global, sent: &[ArcId], arc: ArcId) -> Result<Vec<ArcId>, NoMemory>
+    ensures { IfOk result (λ v. v.items ≡ filter (λ a. not (a == arc)) sent.now) }
+{
+    let mut left = Vec::new(alloc);
+    for other in sent {
+        if *other != arc {
+            left.push(*other)?;
+        }
+    }
+    Ok(left)
+}
+
 /// Adds a note, of the line of that number.
 fn add_note(
     deal: &Deal,
@@ -120,6 +133,12 @@ fn add_note(
                 return Err(refused(alloc, Reason::BadLine(number)));
             }
             sent.push(*arc)?;
+        }
+        Note::Never(arc) => {
+            if !leaves(deal, me, *arc) {
+                return Err(refused(alloc, Reason::BadLine(number)));
+            }
+            *sent = without_arc(alloc, sent, *arc)?;
         }
     }
     Ok(())
@@ -164,7 +183,7 @@ fn add_notes(
 /// What a party's notes keep. The first note stands on the line of that number. A note is refused
 /// by its line if the party can't have made it: its hashkey is for no lock of the deal, is another
 /// one for a lock that has one, or opens nothing, as a torn line's; or its publish is on an arc
-/// that doesn't leave the party.
+/// that doesn't leave the party. A note that a publish can't land takes back those before it.
 #[tactic(auto, unfolding(crate::specs::Kept::notes_kept))]
 pub fn notes_kept(
     alloc: Global,

@@ -3,7 +3,7 @@
 ghost use Rattle.std.specs.Prelude.{◌≡◌};
 ghost use Rattle.swap_base.specs.Fault.{Gives};
 ghost use Rattle.transcript_book.specs.Taking.{Takes};
-ghost use Rattle.party_answer.specs.Notes.{heights_told, is_note, keep_noted, line_noted, pick_note, sent_noted, words_noted};
+ghost use Rattle.party_answer.specs.Notes.{heights_told, is_note, keep_noted, line_noted, never_noted, pick_note, sent_noted, words_noted};
 
 use command_input::{HeaderFault, Reason};
 use hashkey_path::Hashkey;
@@ -22,6 +22,8 @@ pub enum Note {
     Keep(Shared<Hashkey>),
     /// A publish on that arc was sent, or may have been: `sent ARC`.
     Sent(ArcId),
+    /// The publishes that were sent on that arc can't land: `never ARC`.
+    Never(ArcId),
 }
 
 /// The heights between a lock and its hashkey, which are read and not used.
@@ -64,6 +66,15 @@ fn sent_noted(fields: &mut Parts<'_>) -> Result<Note, WordFault>
     Ok(Note::Sent(arc))
 }
 
+#[tactic(auto, unfolding(crate::specs::Notes::never_noted))]
+fn never_noted(fields: &mut Parts<'_>) -> Result<Note, WordFault>
+    ensures { Gives (λ x. x) result (never_noted fields.old) }
+{
+    let arc = byte_field(fields)?;
+    nothing_more(fields)?;
+    Ok(Note::Never(arc))
+}
+
 fn pick_note(alloc: Global, first: &[u8], fields: &mut Parts<'_>) -> Result<Note, WordFault>
     ensures { Gives (λ x. x) result (pick_note first.now fields.old) }
 {
@@ -71,6 +82,8 @@ fn pick_note(alloc: Global, first: &[u8], fields: &mut Parts<'_>) -> Result<Note
         keep_noted(alloc, fields)
     } else if first == b"sent".as_slice() {
         sent_noted(fields)
+    } else if first == b"never".as_slice() {
+        never_noted(fields)
     } else {
         Err(misspelt())
     }
@@ -96,13 +109,15 @@ pub(crate) fn line_noted(alloc: Global, number: u32, line: &[u8]) -> Result<Note
     }
 }
 
-/// Whether a line's first word is `keep` or `sent`.
+/// Whether a line's first word is `keep`, `sent` or `never`.
 #[tactic(auto, unfolding(crate::specs::Notes::is_note))]
 pub(crate) fn is_note(line: &[u8]) -> bool
     ensures { result ≡ is_note line.now }
 {
     match Parts::new(b' ', line).next() {
-        Some(word) => word == b"keep".as_slice() || word == b"sent".as_slice(),
+        Some(word) => {
+            word == b"keep".as_slice() || word == b"sent".as_slice() || word == b"never".as_slice()
+        }
         None => false,
     }
 }

@@ -6,11 +6,12 @@ ghost use Rattle.ledger_core.specs.declared.entry.Call.TheVariants.{Publish};
 ghost use Rattle.swap_rules.specs.Due.{is_due_publish, when_due};
 ghost use Rattle.swap_rules.specs.Useful.{opens_in_time, useful_publishes};
 ghost use Rattle.party_answer.specs.Actions.{actions};
-ghost use Rattle.party_answer.specs.Asker.{known_entries, IsDealAsker};
+ghost use Rattle.party_answer.specs.Asker.{asker_at, known_entries, IsDealAsker};
 
 use crate::asker::Asker;
 use crate::due_call::{DueCall, put_when};
-use due_calls::{arc_height, has_published, may_publish};
+use crate::landing::landing_height;
+use due_calls::{has_published, may_publish};
 use escrow_core::stated_terms;
 use ledger_core::Call;
 use std::alloc::Global;
@@ -26,19 +27,20 @@ fn is_due_publish(asker: &Asker<'_>, arc: ArcId) -> bool
     may_publish(asker.deal, asker.me, asker.known) && !has_published(asker.me, asker.known, arc)
 }
 
-/// Whether the arc's ledger isn't above the height by which contracts open.
+/// Whether a publish on the arc lands by the height by which contracts open.
 fn opens_in_time(asker: &Asker<'_>, arc: ArcId) -> bool
     requires asker { IsDealAsker asker.now }
-    ensures { result ≡ opens_in_time asker.now.deal.now (known_entries asker.now) arc }
+    ensures { result ≡ opens_in_time asker.now.deal.now (asker_at asker.now) arc }
 {
     let deal = asker.deal;
-    arc_height(asker.known, arc) as u64 <= opening_deadline(deal.start, deal.delta, deal.bound)
+    let lands = landing_height(asker.known, asker.told, arc);
+    lands <= opening_deadline(deal.start, deal.delta, deal.bound)
 }
 
-/// Whether the publish on the arc is due and still opens in time.
+/// Whether the publish on the arc is due and lands in time.
 fn is_useful_publish(asker: &Asker<'_>, arc: ArcId) -> bool
     requires asker { IsDealAsker asker.now }
-    ensures { result ≡ (is_due_publish asker.now.deal.now asker.now.me (known_entries asker.now) arc && opens_in_time asker.now.deal.now (known_entries asker.now) arc) }
+    ensures { result ≡ (is_due_publish asker.now.deal.now asker.now.me (known_entries asker.now) arc && opens_in_time asker.now.deal.now (asker_at asker.now) arc) }
 {
     is_due_publish(asker, arc) && opens_in_time(asker, arc)
 }
@@ -53,7 +55,7 @@ fn put_publish(
     requires asker { IsDealAsker asker.now }
     requires arc { arc < length asker.now.deal.now.graph.arcs }
     ensures { OnOk result (actions calls.new.items ≡ actions calls.old.items
-        ++ when_due (is_due_publish asker.now.deal.now asker.now.me (known_entries asker.now) arc && opens_in_time asker.now.deal.now (known_entries asker.now) arc) arc
+        ++ when_due (is_due_publish asker.now.deal.now asker.now.me (known_entries asker.now) arc && opens_in_time asker.now.deal.now (asker_at asker.now) arc) arc
         (Publish (stated_terms asker.now.deal.now arc))) }
 {
     if is_useful_publish(asker, arc) {
@@ -70,7 +72,7 @@ pub(crate) fn put_publishes(
     calls: &mut Vec<DueCall>,
 ) -> Result<(), NoMemory>
     requires asker { IsDealAsker asker.now }
-    ensures { OnOk result (actions calls.new.items ≡ actions calls.old.items ++ useful_publishes asker.now.deal.now asker.now.me (known_entries asker.now)) }
+    ensures { OnOk result (actions calls.new.items ≡ actions calls.old.items ++ useful_publishes asker.now.deal.now asker.now.me (asker_at asker.now) (known_entries asker.now)) }
 {
     'arcs: for arc in asker.deal.graph.leaving(asker.me) {
         put_publish(alloc, asker, *arc, calls)?;

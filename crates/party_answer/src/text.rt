@@ -134,22 +134,23 @@ fn put_rest(out: &mut Vec<u8>, deal: &Deal, known: &[Index], me: PartyId) -> Res
     }
 }
 
-/// Appends that line, where nothing is answered.
+/// Appends that line, where nothing is answered and nothing may land.
 pub(crate) fn put_end(
     out: &mut Vec<u8>,
     deal: &Deal,
     known: &[Index],
     me: PartyId,
     calls: &[Timed],
+    landing: &[Timed],
 ) -> Result<(), NoMemory>
     requires sized { IsWellSized deal.now }
     requires known { AreIndexes deal.now known.now }
     requires me { me < deal.now.graph.n }
-    ensures { OnOk result (out.new.items ≡ out.old.items ++ end_text deal.now (all_entries known.now) me calls.now) }
+    ensures { OnOk result (out.new.items ≡ out.old.items ++ end_text deal.now (all_entries known.now) me calls.now landing.now) }
 {
-    match calls {
-        [] => put_rest(out, deal, known, me),
-        [_, ..] => Ok(()),
+    match (calls, landing) {
+        ([], []) => put_rest(out, deal, known, me),
+        _ => Ok(()),
     }
 }
 

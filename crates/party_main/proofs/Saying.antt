@@ -1,6 +1,7 @@
 -- What a status says, by how its parts ended.
 use Rattle.std.proofs.Common.{◌≡◌, ◌≤◌, ℕ, true, false, List, length, Option, Some, Result, Ok}
-use Rattle.std.specs.Io.KnownBytes.{Appends, Consumes, IsAtEnd}
+use Rattle.std.specs.Io.KnownBytes.{Appends}
+use Rattle.swap_io.specs.Tape.{Consumes, IsAtEnd, Tape}
 use Rattle.swap_io.specs.Causes.{AppendsProperPrefix}
 use Rattle.command_input.specs.Streams.{streams}
 use Rattle.party_answer.specs.declared.given.Answer.{Answer}
@@ -13,7 +14,7 @@ use Rattle.party_main.specs.Output.{party_output, IsPromisedOutput}
 use Rattle.party_main.specs.Says.{HasAnswer, HasText, PartyStatusSays, PartyStatusWrites}
 
 -- The whole input was read for a command.
-module _ (words : List (List ℕ)) (command : Command) (asked : words_party_command words ≡ Some command) (input : List ℕ) (left left' : Option (List ℕ))
+module _ (words : List (List ℕ)) (command : Command) (asked : words_party_command words ≡ Some command) (input : List ℕ) (left left' : Tape)
     (took : Consumes left left' input) (ended : IsAtEnd left') (within : length input ≤ command_input_limit command) where
   abbrev read : (answer : Result Answer PartyReason) → party_output command input ≡ answer → HasAnswer words left left' answer
   read answer e = record { command = command; asked = asked; input = input; taken = took; ended = ended; within = within; gives = e }

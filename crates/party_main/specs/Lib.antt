@@ -3,4 +3,5 @@ pub mod Reasons
 pub mod Next
 pub mod Output
 pub mod Says
+pub mod Process
 pub mod Exit

@@ -1,6 +1,7 @@
 -- What each status says of the words, of bytes read and of bytes written.
 use Rattle.std.specs.Prelude.{◌≡◌, ◌≤◌, ◌+◌, ℕ, true, false, List, length, Option, Some, None, Result, Ok, Err}
-use Rattle.std.specs.Io.KnownBytes.{Appends, Consumes, IsAtEnd, Keeps}
+use Rattle.std.specs.Io.KnownBytes.{Appends, Keeps}
+use Rattle.swap_io.specs.Tape.{Consumes, IsAtEnd, Tape}
 use Rattle.swap_base.specs.declared.fault.Fault.{Fault}
 use Rattle.swap_base.specs.declared.fault.Fault.TheVariants as faults
 use Rattle.swap_io.specs.Causes.{Rose, ConsumesAtMost, ConsumesSome, AppendsProperPrefix}
@@ -14,7 +15,7 @@ use Rattle.party_main.specs.Words.{words_party_command, command_input_limit}
 use Rattle.party_main.specs.Output.{party_output, IsPromisedOutput}
 
 -- The words are a command's, the whole input was read, and this is what is written of it.
-pub record HasAnswer (words : List (List ℕ)) (left left' : Option (List ℕ)) (answer : Result Answer PartyReason) : Type 0 where
+pub record HasAnswer (words : List (List ℕ)) (left left' : Tape) (answer : Result Answer PartyReason) : Type 0 where
   pub command : Command
   pub asked : words_party_command words ≡ Some command
   pub input : List ℕ
@@ -24,7 +25,7 @@ pub record HasAnswer (words : List (List ℕ)) (left left' : Option (List ℕ)) 
   pub gives : party_output command input ≡ answer
 
 -- A text is written of it, which is promised, and P tells what was written of this text.
-pub record HasText (P : Answer → Type 0) (words : List (List ℕ)) (left left' : Option (List ℕ)) : Type 0 where
+pub record HasText (P : Answer → Type 0) (words : List (List ℕ)) (left left' : Tape) : Type 0 where
   pub what : Answer
   pub read : HasAnswer words left left' (Ok what)
   pub promised : IsPromisedOutput read.command read.input what

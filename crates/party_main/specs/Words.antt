@@ -29,7 +29,7 @@ short_limit = 1048576
 
 -- the most bytes of an input of `next`
 abbrev pub next_limit : ℕ
-next_limit = 150994944
+next_limit = 566231040
 
 -- the most bytes that are read for a command
 abbrev pub command_input_limit : Command → ℕ

@@ -13,12 +13,14 @@ pub const SHORT_LIMIT: usize = 1_048_576;
 
 /// The most bytes of an input of `next`.
 ///
-/// The largest deal has 128 arcs, all of them next to one party, and 8 locks. On each ledger at
-/// most 8 unlocks are accepted. The line of an unlock has at most 137,500 bytes: 32 signatures of
-/// 4,288 digits, 32 numbers of parties, a secret and the words around them. So the unlocks come to
-/// 140,800,000 bytes, 8 kept hashkeys to 1,100,000, header and context to 328,705, and publishes,
-/// claims, refunds and ticks to less than 1,000,000. That is less than 144 MiB.
-pub const NEXT_LIMIT: usize = 150_994_944;
+/// The largest deal has 128 arcs, all of them next to one party, and a ledger takes at most 32
+/// entries of a party. The line of an unlock has at most 137,500 bytes: 32 signatures of 4,288
+/// digits, 32 numbers of parties, a secret and the words around them. So the party's own calls come
+/// to 563,200,000 bytes at most, those that were refused and made again too. The accepted unlocks
+/// are 8 a ledger, and among these; 8 kept hashkeys come to 1,100,000 bytes, header and context to
+/// 328,705, and publishes, claims, refunds and ticks to less than 1,000,000. That is less than 540
+/// MiB.
+pub const NEXT_LIMIT: usize = 566_231_040;
 
 /// What the words ask for. Each command but `deal` has the name of a party.
 #[derive(Debug, Drop)]

@@ -7,6 +7,7 @@ use Rattle.std.proofs.lemmas.List.{get_or_default}
 use Rattle.std.proofs.lemmas.Str.{IsUtf8-from_ascii}
 use Rattle.swap_job.specs.declared.job.Job.{Job}
 use Rattle.offer_header.specs.Names.{AreNames}
+use Rattle.swap_offer.specs.Job.{IsWholeJob}
 use Rattle.offer_text.specs.Words.{AreTexts}
 use Rattle.offer_text.specs.HeaderLine.{IsWritable}
 use Rattle.party_rows.specs.declared.row.Row.{Row}
@@ -26,6 +27,17 @@ below bs each i = go (nat_lt i (length bs)) refl
 are_texts : (names : List (List ℕ)) → AreNames names → AreTexts names
 are_texts names k p d lt =
     subst IsUtf8 (get_or_default names p [] d lt) (IsUtf8-from_ascii (get_or names p []) (below (get_or names p []) (k.name p lt).ascii))
+
+-- a job that was read can be written again
+pub whole_is_writable : (job : Job) → IsWholeJob job → AreNames job.names → IsWritable job
+whole_is_writable job whole names = record {
+  sized = whole.sized;
+  names = whole.names;
+  texts = are_texts job.names names;
+  conforming = whole.conforming;
+  roles = whole.roles;
+  seeds = whole.seeds;
+}
 
 pub is_writable : (rows : List (Option Row)) (job j : Job) → IsOffered job → AreDealRows job.deal rows → first_missing rows ≡ None → j ≡ dealt rows job
     → IsWritable j

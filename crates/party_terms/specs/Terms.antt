@@ -1,25 +1,36 @@
 -- What is written of a header line and its lines of context, or the first reason against them.
-use Rattle.std.specs.Prelude.{ℕ, List, [], ◌∷◌, ◌++◌, length, Result, Ok}
+use Rattle.std.specs.Prelude.{ℕ, List, [], ◌∷◌, ◌++◌, length, Result, Ok, Err, if◌then◌else◌}
+use Rattle.std.specs.Str.{bytes_eq}
 use Rattle.std.specs.List.{flat_map}
 use Rattle.sha2.specs.Sha256.{sha256}
 use Rattle.swap_base.specs.Fault.{◌>>=◌}
 use Rattle.swap_job.specs.declared.job.Job.{Job}
 use Rattle.swap_job.specs.declared.job.Purpose.TheVariants.{Audit}
+use Rattle.command_input.specs.declared.reason.Reason.TheVariants.{BadLine}
 use Rattle.command_input.specs.declared.refusal.Refusal.{Refusal}
 use Rattle.command_input.specs.Refusal.{named_result}
 use Rattle.offer_header.specs.Names.{no_strategy}
+use Rattle.offer_text.specs.HeaderLine.{header_line}
 use Rattle.swap_offer.specs.Job.{parse_header_job, header_names}
-use Rattle.party_rows.specs.Lines.{first_line, ended_lines, following_line_number, no_line, short_header}
+use Rattle.party_rows.specs.Lines.{first_line, ended_lines, following_line_number, nameless, no_line, short_header}
 use Rattle.party_rows.specs.Names.{party_named}
 use Rattle.party_terms.specs.declared.context.ContextLine.{ContextLine}
 use Rattle.party_terms.specs.Context.{parse_context}
 use Rattle.party_terms.specs.Text.{terms_text}
 
--- the job of a deal's header line of that number, as a transcript has it
+-- The line of that number is the very line that is written of its job. Who reads the same line with
+-- another reader of JSON (a member that stands twice, a space, another order) could be told another
+-- deal than its party agrees to.
+unfoldable pub very_line : ℕ → List ℕ → Job → Result (Unit {0}) Refusal
+very_line line text job = if bytes_eq text (header_line job) then Ok tt else Err (nameless (BadLine line))
+
+-- the job of a deal's header line of that number, as a transcript has it and as `deal` writes it
 unfoldable pub parse_header_line : ℕ → List ℕ → Result Job Refusal
 parse_header_line line text = do
   u ← short_header line text
-  named_result (header_names no_strategy Audit line text) (parse_header_job no_strategy Audit line text)
+  job ← named_result (header_names no_strategy Audit line text) (parse_header_job no_strategy Audit line text)
+  v ← very_line line text job
+  Ok job
 
 -- What wallets agree on: a deal, what they say of its arcs, and the digest of both. The line behind
 -- has that number.

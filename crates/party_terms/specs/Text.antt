@@ -10,7 +10,7 @@ use Rattle.swap_digraph.specs.Deal.{amount, counterparty, leads, locks, party}
 use Rattle.swap_digraph.specs.Graph.{entering, leaving}
 use Rattle.swap_base.specs.Text.{joined}
 use Rattle.party_terms.specs.declared.context.ContextLine.{ContextLine}
-use Rattle.party_terms.specs.Times.{refund_height, publish_deadline}
+use Rattle.party_terms.specs.Times.{awake_height, claim_deadline, last_opening, publish_deadline, refund_height, show_deadline}
 
 -- the name of party p
 abbrev pub told_name : List (List ℕ) → ℕ → List ℕ
@@ -53,10 +53,15 @@ pays_line names d a =
     joined (codes "pays " ∷ decimal a ∷ codes " " ∷ told_name names (counterparty d a) ∷ codes " " ∷ decimal (amount d a) ∷ codes " publish by " ∷
     decimal (publish_deadline d (party d a)) ∷ codes " back " ∷ decimal (refund_height d a) ∷ codes "\n" ∷ [])
 
--- an arc that enters the party: who pays it how much
+-- until when an arc can be opened, and by when it is claimed
+unfoldable pub until_text : Deal → ℕ → List ℕ
+until_text d a =
+    joined (codes " open" ∷ codes " until " ∷ decimal (last_opening d a) ∷ codes " claim" ∷ codes " by " ∷ decimal (claim_deadline d a) ∷ codes "\n" ∷ [])
+
+-- an arc that enters the party: who pays it how much, and when
 unfoldable pub gets_line : List (List ℕ) → Deal → ℕ → List ℕ
 gets_line names d a =
-    joined (codes "gets " ∷ decimal a ∷ codes " " ∷ told_name names (party d a) ∷ codes " " ∷ decimal (amount d a) ∷ codes "\n" ∷ [])
+    joined (codes "gets " ∷ decimal a ∷ codes " " ∷ told_name names (party d a) ∷ codes " " ∷ decimal (amount d a) ∷ []) ++ until_text d a
 
 unfoldable pub paid_lines : List (List ℕ) → Deal → List ContextLine → ℕ → List ℕ
 paid_lines names d context a = pays_line names d a ++ arc_context context a
@@ -66,18 +71,22 @@ got_lines names d context a = gets_line names d a ++ arc_context context a
 
 -- ---- of a lock
 
-abbrev pub lead_line : ℕ → List ℕ
-lead_line i = joined (codes "leads " ∷ decimal i ∷ codes "\n" ∷ [])
+abbrev pub lead_line : Deal → ℕ → List ℕ
+lead_line d i = joined (codes "leads " ∷ decimal i ∷ codes " show by " ∷ decimal (show_deadline d) ∷ codes "\n" ∷ [])
 
-abbrev pub lead_line_if : (leads : Bool) → ℕ → List ℕ
-lead_line_if true i = lead_line i
-lead_line_if false i = []
+abbrev pub lead_line_if : (leads : Bool) → Deal → ℕ → List ℕ
+lead_line_if true d i = lead_line d i
+lead_line_if false d i = []
 
--- a lock, where the party leads it
+-- a lock, where the party leads it, and by when it shows its hashkey
 abbrev pub leads_line : Deal → ℕ → ℕ → List ℕ
-leads_line d v i = lead_line_if (leads d v i) i
+leads_line d v i = lead_line_if (leads d v i) d i
 
 -- ---- the whole
+
+-- until when the party's wallet has to be awake
+unfoldable pub awake_line : Deal → ℕ → List ℕ
+awake_line d v = joined (codes "awake" ∷ codes " until " ∷ decimal (awake_height d v) ∷ codes "\n" ∷ [])
 
 -- what stands before the arcs
 unfoldable pub terms_head_text : List (List ℕ) → Deal → List ℕ → ℕ → List ℕ
@@ -87,4 +96,4 @@ terms_head_text names d agreed v = terms_party_line names v ++ digest_lines d.id
 unfoldable pub terms_text : List (List ℕ) → Deal → List ContextLine → List ℕ → ℕ → List ℕ
 terms_text names d context agreed v =
     terms_head_text names d agreed v ++ flat_map (paid_lines names d context) (leaving d.graph v) ++ flat_map (got_lines names d context) (entering d.graph v) ++
-    flat_map (leads_line d v) (locks d)
+    flat_map (leads_line d v) (locks d) ++ awake_line d v

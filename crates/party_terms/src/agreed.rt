@@ -6,11 +6,14 @@ ghost use Rattle.swap_base.specs.Fault.{Gives};
 ghost use Rattle.hashkey_path.specs.Digest.{Feeds};
 ghost use Rattle.party_rows.specs.Lines.{TakesFirstLine};
 ghost use Rattle.party_terms.specs.Inside.{inside_agreed, IsAgreedJob};
-ghost use Rattle.party_terms.specs.Terms.{parse_agreed, agreed_digest, parse_header_line};
+ghost use Rattle.offer_header.specs.Names.{AreNames};
+ghost use Rattle.swap_offer.specs.Job.{IsWholeJob};
+ghost use Rattle.party_terms.specs.Terms.{parse_agreed, agreed_digest, parse_header_line, very_line};
 
 use crate::context::{ContextLine, read_context};
-use command_input::HeaderFault;
-use party_rows::{first_line, short_header};
+use command_input::{HeaderFault, Reason};
+use offer_text::write_deal;
+use party_rows::{first_line, refused, short_header};
 use sha2::{Digest as Hasher, Sha256};
 use std::alloc::Global;
 use swap_base::{Digest, Listed};
@@ -55,15 +58,32 @@ fn agreed_digest(header: &[u8], context: &[ContextLine]) -> Digest
     hasher.finalize()
 }
 
-/// The job of a deal's header line of that number, as a transcript has it.
+/// The line of that number is the very line that is written of its job.
+#[tactic(auto, using(party_rows::proofs::Writable::whole_is_writable), unfolding(crate::specs::Terms::very_line))]
+fn very_line(alloc: Global, line: u32, text: &[u8], job: &Job) -> Result<(), HeaderFault>
+    requires whole { IsWholeJob job.now }
+    requires names { AreNames job.now.names }
+    requires purpose { job.now.purpose ≡ Purpose.Audit }
+    ensures { Gives (λ u. u) result (very_line line text.now job.now) }
+{
+    let written = write_deal(alloc, job)?;
+    if text == written.as_slice() {
+        Ok(())
+    } else {
+        Err(refused(alloc, Reason::BadLine(line)))
+    }
+}
+
+/// The job of a deal's header line of that number, as a transcript has it and as `deal` writes it.
 #[tactic(auto, unfolding(crate::specs::Terms::parse_header_line))]
 fn parse_header_line(alloc: Global, line: u32, text: &[u8]) -> Result<Job, HeaderFault>
     ensures exact { Gives (λ j. j) result (parse_header_line line text.now) }
     ensures told { IfOk result IsAgreedJob }
 {
     short_header(alloc, line, text)?;
-    let prepared = read_header(alloc, line, text, Purpose::Audit, &[])?;
-    Ok(prepared.job)
+    let job = read_header(alloc, line, text, Purpose::Audit, &[])?.job;
+    very_line(alloc, line, text, &job)?;
+    Ok(job)
 }
 
 /// Takes what wallets agree on: the header line of that number, and the lines of context behind it,

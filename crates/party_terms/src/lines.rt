@@ -3,10 +3,12 @@
 ghost use Rattle.std.specs.Prelude.{◌≡◌, ◌<◌, ◌++◌, OnOk, length};
 ghost use Rattle.swap_digraph.specs.Deal.{IsWellSized};
 ghost use Rattle.party_terms.specs.Text.{context_line_if, arc_context, digest_lines, gets_line, got_lines, terms_head_text, leads_line, mode_word, paid_lines};
-ghost use Rattle.party_terms.specs.Text.{terms_party_line, pays_line, times_line};
+ghost use Rattle.party_terms.specs.Text.{awake_line, terms_party_line, pays_line, times_line, until_text};
 
 use crate::context::ContextLine;
-use crate::heights::{publish_deadline, refund_height};
+use crate::heights::{
+    awake_height, claim_deadline, last_opening, publish_deadline, refund_height, show_deadline,
+};
 use command_input::party_name;
 use due_calls::leads;
 use run_texts::put_digits;
@@ -141,6 +143,27 @@ fn put_pays(out: &mut Vec<u8>, names: &[ByteText], deal: &Deal, arc: ArcId) -> R
     )
 }
 
+/// Appends until when an arc can be opened, and by when it is claimed.
+#[tactic(auto, unfolding(crate::specs::Text::until_text))]
+fn put_until(out: &mut Vec<u8>, deal: &Deal, arc: ArcId) -> Result<(), NoMemory>
+    requires sized { IsWellSized deal.now }
+    requires arc { arc < length deal.now.graph.arcs }
+    ensures { OnOk result (out.new.items ≡ out.old.items ++ until_text deal.now arc) }
+{
+    put(
+        out,
+        &[
+            Piece::Text(" open"),
+            Piece::Text(" until "),
+            Piece::Number(last_opening(deal, arc)),
+            Piece::Text(" claim"),
+            Piece::Text(" by "),
+            Piece::Number(claim_deadline(deal, arc)),
+            Piece::Text("\n"),
+        ],
+    )
+}
+
 #[tactic(auto, unfolding(crate::specs::Text::gets_line))]
 fn put_gets(out: &mut Vec<u8>, names: &[ByteText], deal: &Deal, arc: ArcId) -> Result<(), NoMemory>
     requires sized { IsWellSized deal.now }
@@ -157,9 +180,9 @@ fn put_gets(out: &mut Vec<u8>, names: &[ByteText], deal: &Deal, arc: ArcId) -> R
             Piece::Bytes(party_name(names, ends.from)),
             Piece::Text(" "),
             Piece::Number(deal.amounts.as_slice()[arc as usize]),
-            Piece::Text("\n"),
         ],
-    )
+    )?;
+    put_until(out, deal, arc)
 }
 
 /// Appends the lines of an arc that leaves the party.
@@ -203,7 +226,8 @@ pub(crate) fn put_lead(
     party: PartyId,
     lock: LockId,
 ) -> Result<(), NoMemory>
-    requires { party < deal.now.graph.n }
+    requires sized { IsWellSized deal.now }
+    requires party { party < deal.now.graph.n }
     ensures { OnOk result (out.new.items ≡ out.old.items ++ leads_line deal.now party lock) }
 {
     if leads(deal, party, lock) {
@@ -212,10 +236,29 @@ pub(crate) fn put_lead(
             &[
                 Piece::Text("leads "),
                 Piece::Number(lock as u64),
+                Piece::Text(" show by "),
+                Piece::Number(show_deadline(deal)),
                 Piece::Text("\n"),
             ],
         )
     } else {
         Ok(())
     }
+}
+
+/// Appends until when the party's wallet has to be awake.
+#[tactic(auto, unfolding(crate::specs::Text::awake_line))]
+pub(crate) fn put_awake(out: &mut Vec<u8>, deal: &Deal, party: PartyId) -> Result<(), NoMemory>
+    requires { IsWellSized deal.now }
+    ensures { OnOk result (out.new.items ≡ out.old.items ++ awake_line deal.now party) }
+{
+    put(
+        out,
+        &[
+            Piece::Text("awake"),
+            Piece::Text(" until "),
+            Piece::Number(awake_height(deal, party)),
+            Piece::Text("\n"),
+        ],
+    )
 }

@@ -7,7 +7,7 @@ ghost use Rattle.swap_digraph.specs.Graph.{entering, leaving};
 ghost use Rattle.party_terms.specs.Text.{got_lines, leads_line, paid_lines, terms_text};
 
 use crate::context::ContextLine;
-use crate::lines::{put_got, put_head, put_lead, put_paid};
+use crate::lines::{put_awake, put_got, put_head, put_lead, put_paid};
 use std::alloc::Global;
 use swap_base::{ByteText, Digest, NoMemory, PartyId};
 use swap_digraph::Deal;
@@ -51,6 +51,7 @@ fn put_entering(
 /// Appends the lines of the locks that the party leads.
 #[tactic(auto, using(conduct_check::proofs::KeyLoops::flat_more))]
 fn put_leads(out: &mut Vec<u8>, deal: &Deal, party: PartyId) -> Result<(), NoMemory>
+    requires sized { IsWellSized deal.now }
     requires few { length deal.now.leaders < 256 }
     requires party { party < deal.now.graph.n }
     ensures { OnOk result (out.new.items ≡ out.old.items ++ flat_map (leads_line deal.now party) (locks deal.now)) }
@@ -80,5 +81,6 @@ pub(crate) fn terms_text(
     put_leaving(&mut out, names, deal, context, party)?;
     put_entering(&mut out, names, deal, context, party)?;
     put_leads(&mut out, deal, party)?;
+    put_awake(&mut out, deal, party)?;
     Ok(ByteText::new(out))
 }

@@ -24,7 +24,9 @@ use Rattle.told_ledgers.specs.declared.stage.Stage.TheVariants.{Between, Reading
 use Rattle.told_ledgers.specs.SoFar.{LedgerSoFar}
 use Rattle.told_ledgers.specs.Words.{line_kind}
 use Rattle.told_ledgers.specs.Ledger.{line_heard, nothing_read, whole_told_ledger, untold}
-use Rattle.told_ledgers.specs.Telling.{Telling, arc_said, begun_at_heading, frame_told, with_heard, heading_said, heading_words, ledgers_told, next_number}
+use Rattle.told_ledgers.specs.Headings.{arc_said, heading_said, heading_words}
+use Rattle.told_ledgers.specs.Chains.{is_chain_line}
+use Rattle.told_ledgers.specs.Telling.{Telling, begun_at_heading, chain_told, frame_told, with_heard, ledgers_told, next_number}
 use Rattle.told_ledgers.specs.Telling.{unless_bad_line, passing, reading_ledger, further_lines_told}
 use Rattle.told_ledgers.proofs.Kept.{HeardSame, IsSame, heard_same}
 use Rattle.program_laws.specs.Apart.{AreAscending, EachIsToldAlone, LedgerLines, all_heard, all_lines, heading_line, heard_ledger, ledger_alone, then_heard}
@@ -117,15 +119,19 @@ module _ (d : Deal) (v : ℕ) where
       ∙ stepped _ (a, decimal n ∷ []) _ (field_back (arc_said least arcs) (decimal a) a (decimal n ∷ []) (arc_back least arcs a low high (omega arith)))
       ∙ stepped _ (n, []) _ (field_back (bounded_number (2 ^ 32)) (decimal n) n [] (below_back (2 ^ 32) n few (omega arith)))
 
+  heading_parts : (b : LedgerLines) → b.arc < 2 ^ 64 → length b.lines < 2 ^ 32
+      → separated_parts 32 (heading_line b) ≡ codes "ledger" ∷ decimal b.arc ∷ decimal (length b.lines) ∷ []
+  heading_parts b small few =
+      parts_between 32 33 (codes "ledger") (decimal b.arc ∷ decimal (length b.lines) ∷ []) (omega arith) refl (
+        high_too 33 48 (decimal b.arc) (omega arith) (high_number b.arc (omega arith)),
+        (high_too 33 48 (decimal (length b.lines)) (omega arith) (high_number (length b.lines) (omega arith)), tt),
+      )
+
   heading_is : (least arcs : ℕ) (b : LedgerLines) → least ≤ b.arc → b.arc < arcs → arcs < 2 ^ 64 → length b.lines < 2 ^ 32
       → heading_said least arcs (heading_line b) ≡ Ok (record { arc = b.arc; count = length b.lines })
   unfolding heading_said
   heading_is least arcs b low high small few =
-      ap (heading_words least arcs) (parts_between 32 33 (codes "ledger") (decimal b.arc ∷ decimal (length b.lines) ∷ []) (omega arith) refl (
-        high_too 33 48 (decimal b.arc) (omega arith) (high_number b.arc (omega arith)),
-        (high_too 33 48 (decimal (length b.lines)) (omega arith) (high_number (length b.lines) (omega arith)), tt),
-      ))
-      ∙ heading_back least arcs b.arc (length b.lines) low high small few
+      ap (heading_words least arcs) (heading_parts b (omega arith) few) ∙ heading_back least arcs b.arc (length b.lines) low high small few
 
   -- ---- one ledger after another
 
@@ -156,9 +162,12 @@ module _ (d : Deal) (v : ℕ) where
       → length d.graph.arcs < 2 ^ 64 → length b.lines < 2 ^ 32
       → further_lines_told n (at_hand ts least c m Between) (heading_line b ∷ rest)
       ≡ further_lines_told (next_number n) (begun_at_heading (record { arc = b.arc; count = length b.lines }) (at_hand ts least c m Between)) rest
-  unfolding frame_told
+  unfolding frame_told is_chain_line
   heading_read n ts least c m b rest low high small few =
-      ap (λ (r : Result Heading Misspelling). unless_bad_line n (r >>= λ h. Ok (begun_at_heading h (at_hand ts least c m Between))) >>= λ t. further_lines_told (next_number n) t rest)
+      ap (λ (ws : List (List ℕ)). unless_bad_line n (cond (is_chain_line ws) (chain_told (at_hand ts least c m Between) (heading_line b))
+      (heading_said least (length d.graph.arcs) (heading_line b) >>= λ h. Ok (begun_at_heading h (at_hand ts least c m Between)))) >>= λ t. further_lines_told (next_number n) t rest)
+      (heading_parts b (omega arith) few)
+      ∙ ap (λ (r : Result Heading Misspelling). unless_bad_line n (r >>= λ h. Ok (begun_at_heading h (at_hand ts least c m Between))) >>= λ t. further_lines_told (next_number n) t rest)
       (heading_is least (length d.graph.arcs) b low high small few)
 
   all_read : (n : ℕ) (ts : List ToldLedger) (least c m : ℕ) (bs : List LedgerLines) → AreUntold ts least → length d.graph.arcs < 2 ^ 64

@@ -1,6 +1,6 @@
 -- What the line of an entry is by its words.
 use Rattle.std.proofs.Common.{◌≡◌, ◌≢◌, ◌&&◌, ◌||◌, ◌≤◌, ◌<◌, ◌^◌, ℕ, Bool, true, false, not, cond, List, [], ◌∷◌, ◌++◌, length, decimal, Ok}
-use Rattle.std.proofs.Common.{Result, refl, sym, ap, ◌∙◌, arith, length-append}
+use Rattle.std.proofs.Common.{Result, refl, sym, ap, ap₂, ◌∙◌, arith, length-append}
 use Rattle.std.specs.Prelude.{codes}
 use Rattle.hashkey_path.proofs.Validity.{bytes_eq-true}
 use Rattle.swap_rules.proofs.Words.{bytes_eq-refl}
@@ -21,9 +21,10 @@ use Rattle.transcript_book.proofs.Numbers.{high_number, number_back}
 use Rattle.transcript_book.proofs.SeparatedParts.{all_append, high_too, parts_between}
 use Rattle.transcript_book.proofs.Spelling.{high_call, high_reply}
 use Rattle.told_ledgers.specs.declared.kind.Kind.{Kind}
-use Rattle.told_ledgers.specs.declared.kind.Kind.TheVariants.{Read, Noise, Publish as PublishLine, Accepted as AcceptedLine}
-use Rattle.told_ledgers.specs.Words.{ends_accepted, foreign_kind, line_kind}
-use Rattle.program_laws.specs.Enough.{call_kind, is_accepting}
+use Rattle.told_ledgers.specs.declared.kind.Kind.TheVariants.{Read, Refused, Noise, Publish as PublishLine, Accepted as AcceptedLine}
+use Rattle.told_ledgers.specs.Words as words
+use Rattle.told_ledgers.specs.Words.{ends_accepted, ends_unfunded, foreign_kind, line_kind}
+use Rattle.program_laws.specs.Enough.{call_kind, is_accepting, is_for_want_of_funds, own_call_kind}
 
 -- ---- the words
 
@@ -116,14 +117,60 @@ other_number p v lp lv other = by (is_word (decimal p) (decimal v)) refl
     by true q = absurd (other (same_number p v lp lv (bytes_eq-true (decimal p) (decimal v) q)))
     by false q = q
 
+-- ---- the last three words
+
+three_more : (x : List ℕ) (l : List (List ℕ)) → 3 ≤ length l → ends_unfunded (x ∷ l) ≡ ends_unfunded l
+three_more x [] le = absurd (omega arith)
+three_more x (w ∷ []) le = absurd (omega arith)
+three_more x (w ∷ y ∷ []) le = absurd (omega arith)
+three_more x (w ∷ y ∷ z ∷ l) le = refl
+
+never : (x : Bool) → (x && false) ≡ false
+never true = refl
+never false = refl
+
+unfunded_reply : (w : List ℕ) (r : Reply) → ends_unfunded (w ∷ codes "=" ∷ reply_words r) ≡ is_for_want_of_funds r
+unfunded_reply w Accepted = never (is_word w (codes "="))
+unfunded_reply w Settled = never (is_word w (codes "="))
+unfunded_reply w NotCounterparty = never (is_word w (codes "="))
+unfunded_reply w NotParty = never (is_word w (codes "="))
+unfunded_reply w AlreadyUnlocked = never (is_word w (codes "="))
+unfunded_reply w WrongSecret = never (is_word w (codes "="))
+unfunded_reply w WrongPath = never (is_word w (codes "="))
+unfunded_reply w WrongSignature = never (is_word w (codes "="))
+unfunded_reply w (TooLate n) = refl
+unfunded_reply w (StillLocked n) = refl
+unfunded_reply w NothingLocked = never (is_word w (codes "="))
+unfunded_reply w (NotExpired n) = refl
+unfunded_reply w NoContract = never (is_word w (codes "="))
+unfunded_reply w AlreadyPublished = never (is_word w (codes "="))
+unfunded_reply w (NoFunds n) = refl
+unfunded_reply w SenderFull = never (is_word w (codes "="))
+unfunded_reply w ClockFull = never (is_word w (codes "="))
+
+unfunded_words : (w : List ℕ) (ws : List (List ℕ)) (r : Reply) → ends_unfunded (w ∷ (ws ++ codes "=" ∷ reply_words r)) ≡ is_for_want_of_funds r
+unfunded_words w [] r = unfunded_reply w r
+unfunded_words w (x ∷ ws) r =
+    three_more w (x ∷ (ws ++ codes "=" ∷ reply_words r)) (omega (arith, some_words r, length-append ws (codes "=" ∷ reply_words r)))
+    ∙ unfunded_words x ws r
+
+own_is : (p : ℕ) (c : Call) (r : Reply) → words.own_kind (entry_words (Party p) (Made c) r) ≡ own_call_kind c r
+own_is p (Publish t) r =
+    ap₂ (λ (x y : Bool). cond (x && not y) Refused Read) (unfunded_words (codes "c") (decimal p ∷ call_words (Publish t)) r)
+    (ends_words (codes "c" ∷ decimal p ∷ call_words (Publish t)) r)
+own_is p (Unlock key) r = ap (λ x. cond (not x) Refused Read) (ends_words (codes "c" ∷ decimal p ∷ call_words (Unlock key)) r)
+own_is p Claim r = ap (λ x. cond (not x) Refused Read) (ends_words (codes "c" ∷ decimal p ∷ call_words Claim) r)
+own_is p Refund r = ap (λ x. cond (not x) Refused Read) (ends_words (codes "c" ∷ decimal p ∷ call_words Refund) r)
+own_is p (Transfer to units) r = refl
+
 abbrev by_second : ℕ → Call → Reply → Bool → Kind
-by_second p c r t = cond (true && not t) (foreign_kind (entry_words (Party p) (Made c) r)) Read
+by_second p c r t = cond t (words.own_kind (entry_words (Party p) (Made c) r)) (foreign_kind (entry_words (Party p) (Made c) r))
 
 pub other_kind : (v p : ℕ) (c : Call) (r : Reply) → p < 256 → v < 256 → p ≢ v → line_kind v (entry_words (Party p) (Made c) r) ≡ call_kind c r
 other_kind v p c r lp lv other = ap (by_second p c r) (other_number p v lp lv other) ∙ foreign_is p c r
 
-pub own_kind : (v : ℕ) (c : Call) (r : Reply) → line_kind v (entry_words (Party v) (Made c) r) ≡ Read
-own_kind v c r = ap (by_second v c r) (bytes_eq-refl (decimal v))
+pub own_kind : (v : ℕ) (c : Call) (r : Reply) → line_kind v (entry_words (Party v) (Made c) r) ≡ own_call_kind c r
+own_kind v c r = ap (by_second v c r) (bytes_eq-refl (decimal v)) ∙ own_is v c r
 
 pub tick_kind : (v n : ℕ) (r : Reply) → line_kind v (entry_words Clock (Tick n) r) ≡ Read
 tick_kind v n r = refl

@@ -1,6 +1,6 @@
 -- What is told of each arc of a book.
 use Rattle.std.proofs.Common.{◌≡◌, ◌≢◌, ◌⊎◌, ◌&&◌, ◌==◌, ◌+◌, ◌<◌, ◌≤◌, ◌^◌, ℕ, zero, suc, Bool, true, false, not, cond, List, [], ◌∷◌, length, map, fold}
-use Rattle.std.proofs.Common.{set, get_or, replicate, None, is_some, refl, sym, ap, ◌∙◌, subst, inl, inr, arith, eqb-true, eq-eqb}
+use Rattle.std.proofs.Common.{◌||◌, set, get_or, replicate, Option, Some, None, is_some, refl, sym, ap, ◌∙◌, subst, inl, inr, arith, eqb-true, eq-eqb}
 use Rattle.std.specs.Prelude.{All}
 use Rattle.std.specs.List.{AllByRecursion, range_with_len}
 use Rattle.std.proofs.lemmas.Bool.{false≢true}
@@ -13,6 +13,7 @@ use Rattle.swap_digraph.specs.declared.deal.Version.TheVariants.{One, Two}
 use Rattle.swap_digraph.specs.Graph.{arcs, ends, entering, leaving, is_listed}
 use Rattle.swap_digraph.specs.Deal.{counterparty, most_parties, touches, IsWellSized}
 use Rattle.swap_digraph.proofs.Paths.{in-is_listed, is_listed-true}
+use Rattle.ledger_core.specs.declared.entry.Call.{Call}
 use Rattle.ledger_core.specs.declared.entry.Sender.{Sender}
 use Rattle.ledger_core.specs.declared.entry.Sender.TheVariants.{Party, Clock}
 use Rattle.ledger_core.specs.declared.entry.What.{What}
@@ -22,14 +23,17 @@ use Rattle.ledger_core.specs.History.{published, IsLegal}
 use Rattle.ledger_core.specs.Book.{Histories, history, IsLegalBook}
 use Rattle.ledger_core.specs.WellFormed.{IsFormed}
 use Rattle.ledger_core.proofs.History.{not-true}
-use Rattle.swap_rules.specs.Party.{is_arc_correct}
+use Rattle.swap_rules.specs.Party.{is_arc_correct, pick_call}
+use Rattle.swap_rules.specs.Conduct.{is_publish}
+use Rattle.swap_rules.specs.Counted as counts
+use Rattle.swap_rules.specs.Counted.{all_counted, counted}
+use Rattle.swap_rules.proofs.Counted.{counted_is, counted_reads}
 use Rattle.swap_rules.specs.Due.{has_called}
 use Rattle.swap_rules.specs.Rest.{is_ticking}
 use Rattle.swap_rules.proofs.Words.{enters, leaves}
-use Rattle.wallet_promise.specs.WithoutNoise.{is_told, is_useless, telling, AreUseless, IsTrueClock, IsTrueEntry, SaysTheSame}
-use Rattle.wallet_promise.proofs.Legal.{telling_is_legal}
+use Rattle.wallet_promise.specs.WithoutNoise.{is_told, is_useless, merged, telling, AreUseless, IsTrueClock, IsTrueEntry, SaysTheSame}
+use Rattle.wallet_promise.proofs.LegalCounted.{told_is_legal}
 use Rattle.wallet_promise.proofs.Needed.{silent_in, useless}
-use Rattle.wallet_promise.proofs.Telling.{says_telling}
 use Rattle.transcript_book.specs.Lines.{IsStatable}
 use Rattle.transcript_book.specs.Stated.{IsTyped}
 use Rattle.transcript_book.proofs.Legal.{legal_is_stated}
@@ -38,10 +42,12 @@ use Rattle.told_ledgers.specs.Ledger.{nothing_read, untold}
 use Rattle.told_ledgers.specs.Telling.{told_book}
 use Rattle.told_ledgers.proofs.Ledgers.{told_history}
 use Rattle.program_laws.specs.Apart.{AreAscending, LedgerLines, all_heard, heard_ledger, ledger_alone, with_ledger}
-use Rattle.program_laws.specs.Enough.{IsTellable, IsToldBook, IsToldEnough, LinesSayEnough, SayEntries}
+use Rattle.program_laws.specs.Enough.{IsTellable, IsToldBook, IsToldEnough, LinesSayEnough, SayEntries, all_funded, funded, is_for_want_of_funds, is_unfunded}
 use Rattle.program_laws.proofs.Apart.{each_is_told_alone}
+use Rattle.program_laws.proofs.Funded.{funded_before, funded_is, funded_is_legal}
 use Rattle.program_laws.proofs.Useless.{useless_told}
-use Rattle.program_laws.proofs.Needed.{IsNeededHere, all_told}
+use Rattle.program_laws.proofs.Merging.{all_stay, says_counted, stands_is}
+use Rattle.program_laws.proofs.Needed.{IsNeededHere, all_told, nothing_heard, part}
 
 -- ---- what holds of each of a list
 
@@ -87,10 +93,45 @@ alone_is d a h lt =
 alone_others : (d : Deal) (a c : ℕ) (h : List Entry) → c ≢ a → history (alone d a h) c ≡ []
 alone_others d a c h other = get_or-set_other (replicate (length d.graph.arcs) []) a c h [] other ∙ nothing_in (length d.graph.arcs) c
 
--- What is told of a ledger says enough, and has no bad entry where the arc isn't useless.
+-- What counts of what is told of a ledger says enough, and it has no bad entry where the arc isn't
+-- useless.
 pub record IsToldHere (d : Deal) (v a : ℕ) (h : List Entry) (t : ToldLedger) : Type 0 where
-  pub enough : SaysTheSame v t.history h ⊎ AreUseless d v a t.history h
+  pub enough : SaysTheSame v (counted v t.history) (counted v (funded v h)) ⊎ AreUseless d v a (counted v t.history) (counted v (funded v h))
   pub clean : is_useless d v a h ≡ false → t.bad ≡ None
+
+-- what counts of a useless arc is useless
+fewer_calls : (v : ℕ) (k : List Entry) (test : Option Call → Bool) → has_called v test k ≡ false → has_called v test (counted v k) ≡ false
+fewer_calls v k test none = by (has_called v test (counted v k)) refl
+  where
+    by : (b : Bool) → has_called v test (counted v k) ≡ b → has_called v test (counted v k) ≡ false
+    by false e = e
+    by true e = absurd (false≢true (sym none ∙ (counted_reads v k).calls test e))
+
+some_call_none : (v : ℕ) (test : Option Call → Bool) → test None ≡ false → (k : List Entry) → has_called v is_some k ≡ false → has_called v test k ≡ false
+some_call_none v test n [] e = refl
+some_call_none v test n (x ∷ k) e = by (pick_call v x) refl (λ q. some_call_none v test n k q)
+  where
+    by : (o : Option Call) → pick_call v x ≡ o → (has_called v is_some k ≡ false → has_called v test k ≡ false) → has_called v test (x ∷ k) ≡ false
+    by None q more = ap (λ (o : Option Call). test o || has_called v test k) q ∙ ap (λ b. b || has_called v test k) n
+        ∙ more (sym (ap (λ (o : Option Call). is_some o || has_called v is_some k) q) ∙ e)
+    by (Some c) q more = absurd (false≢true (sym e ∙ ap (λ (o : Option Call). is_some o || has_called v is_some k) q))
+
+still_useless : (d : Deal) (v a : ℕ) (k h : List Entry) → has_called v is_some h ≡ false → AreUseless d v a k h → AreUseless d v a (counted v k) (counted v h)
+still_useless d v a k h silent u = record {
+  enters = u.enters;
+  one = ap (is_arc_correct d a) (counted_reads v k).published ∙ u.one;
+  other = ap (is_arc_correct d a) (counted_reads v h).published ∙ u.other;
+  calls = λ test n. let none = some_call_none v test n h silent in
+      fewer_calls v k test (u.calls test n ∙ none) ∙ sym (fewer_calls v h test none);
+}
+
+-- a party without calls lacked no funds
+pub all_paid : (v : ℕ) (h : List Entry) → ((e : Entry) → IsElement e h → is_unfunded v e ≡ false) → funded v h ≡ h
+all_paid v h paid = all_stay (λ e. not (is_unfunded v e)) h (λ e i. ap not (paid e i))
+
+silent_paid : (v : ℕ) (h : List Entry) → has_called v is_some h ≡ false → funded v h ≡ h
+silent_paid v h silent =
+    all_paid v h (λ e i. ap (λ (o : Option Call). is_publish o && is_for_want_of_funds e.reply) (silent_in v h silent e i))
 
 module _ (d : Deal) (v a : ℕ) (sized : IsWellSized d) (party_of : v < d.graph.n) (h : List Entry) (ls : List (List ℕ)) (lt : a < length d.graph.arcs)
     (k : IsTellable d v a h) where
@@ -108,16 +149,17 @@ module _ (d : Deal) (v a : ℕ) (sized : IsWellSized d) (party_of : v < d.graph.
 
   -- a useless one
   when_useless : is_useless d v a h ≡ true → SayEntries true d v a h ls
-      → AreUseless d v a (heard_ledger (all_heard 0 (nothing_read d v a) ls)).history h
+      → AreUseless d v a (counted v (heard_ledger (all_heard 0 (nothing_read d v a) ls)).history) (counted v (funded v h))
   when_useless e s =
       let x = useless d v a h e in
-      useless_told d v a (small_party d v sized party_of) h ls (record {
+      subst (λ z. AreUseless d v a (counted v (heard_ledger (all_heard 0 (nothing_read d v a) ls)).history) (counted v z)) (sym (silent_paid v h x.silent))
+      (still_useless d v a _ h x.silent (useless_told d v a (small_party d v sized party_of) h ls (record {
         mine = eq-eqb v (counterparty d a) (sym (enters d v a x.enters).1);
         wrong = x.wrong;
         silent = silent_in v h x.silent;
         clock = clock_here;
         typed = typed_here;
-      }) x.apart s
+      }) x.apart s))
 
   -- another: there a publish of the correct terms was accepted, if it enters v
   not_leaving : counterparty d a ≡ v → IsElement a (leaving d.graph v) → ⊥
@@ -145,25 +187,27 @@ module _ (d : Deal) (v a : ℕ) (sized : IsWellSized d) (party_of : v < d.graph.
       by true q = q
       by false q = absurd (false≢true (sym e ∙ would_be_useless (sym (eqb-true v (counterparty d a) mine)) q))
 
-  legal_by : (c : ℕ) (t : Bool) → (c == a) ≡ t → IsLegal d a (telling v h) → IsLegal d c (history (alone d a (telling v h)) c)
+  legal_by : (c : ℕ) (t : Bool) → (c == a) ≡ t → IsLegal d a (part v h) → IsLegal d c (history (alone d a (part v h)) c)
   legal_by c true q l =
-      subst (λ z. IsLegal d z (history (alone d a (telling v h)) z)) (sym (eqb-true c a q)) (subst (IsLegal d a) (sym (alone_is d a (telling v h) lt)) l)
-  legal_by c false q l = subst (IsLegal d c) (sym (alone_others d a c (telling v h) (λ z. false≢true (sym q ∙ eq-eqb c a z)))) tt
+      subst (λ z. IsLegal d z (history (alone d a (part v h)) z)) (sym (eqb-true c a q)) (subst (IsLegal d a) (sym (alone_is d a (part v h) lt)) l)
+  legal_by c false q l = subst (IsLegal d c) (sym (alone_others d a c (part v h) (λ z. false≢true (sym q ∙ eq-eqb c a z)))) tt
 
-  typed_by : (c : ℕ) (t : Bool) → (c == a) ≡ t → All IsTyped (history (alone d a (telling v h)) c)
+  typed_by : (c : ℕ) (t : Bool) → (c == a) ≡ t → All IsTyped (history (alone d a (part v h)) c)
   typed_by c true q =
-      subst (λ z. All IsTyped (history (alone d a (telling v h)) z)) (sym (eqb-true c a q))
-      (subst (All IsTyped) (sym (alone_is d a (telling v h) lt))
-      (all_from_in IsTyped (telling v h) (λ x i. typed_here x (from_filter (is_told v) x h i).0)))
+      subst (λ z. All IsTyped (history (alone d a (part v h)) z)) (sym (eqb-true c a q))
+      (subst (All IsTyped) (sym (alone_is d a (part v h) lt))
+      (all_from_in IsTyped (part v h) (λ x i. typed_here x
+      (from_filter (is_told v) x h (from_filter (λ y. not (counts.is_passed v y)) x (telling v h)
+      (from_filter (λ y. not (is_unfunded v y)) x (counted v (telling v h)) i).0).0).0)))
   typed_by c false q =
-      subst (All IsTyped) (sym (alone_others d a c (telling v h) (λ z. false≢true (sym q ∙ eq-eqb c a z)))) (all_from_in IsTyped [] (λ x i. absurd i))
+      subst (All IsTyped) (sym (alone_others d a c (part v h) (λ z. false≢true (sym q ∙ eq-eqb c a z)))) (all_from_in IsTyped [] (λ x i. absurd i))
 
   needed_here : is_useless d v a h ≡ false → IsNeededHere d v a h
   needed_here e =
-      let l = telling_is_legal d v a h sized.leaders.1 (k.chain.contract e) k.within in
-      let b = alone d a (telling v h) in
-      let is = alone_is d a (telling v h) lt in
-      let long = alone_long d a (telling v h) in
+      let l = funded_is_legal d v a (counted v (telling v h)) (told_is_legal d v a h sized.leaders.1 (k.chain.contract e) k.within) in
+      let b = alone d a (part v h) in
+      let is = alone_is d a (part v h) lt in
+      let long = alone_long d a (part v h) in
       let book : IsLegalBook d b = record { one_each = long; legal = λ c below. legal_by c (c == a) refl l } in
       let stated = legal_is_stated d b book (λ c below. typed_by c (c == a) refl) in record {
         legal = l;
@@ -178,9 +222,13 @@ module _ (d : Deal) (v a : ℕ) (sized : IsWellSized d) (party_of : v < d.graph.
     clean = λ n. absurd (false≢true (sym n ∙ e));
   }
   heard_here false e s =
-      let x = all_told d v a (small_party d v sized party_of) h (needed_here e) 0 [] h [] ls refl s in record {
-        enough = inl (subst (λ (z : ToldLedger). SaysTheSame v z.history h) (sym (ap heard_ledger x.1)) (says_telling v h));
-        clean = λ n. ap (λ z. (heard_ledger z).bad) x.1;
+      let u = needed_here e in
+      let small = small_party d v sized party_of in
+      let x = all_told d v a small h u typed_here 0 [] h _ (nothing_heard d v a small h u) ls refl s in
+      let told : (heard_ledger (all_heard 0 (nothing_read d v a) ls)).history ≡ merged (part v h) =
+      ap (λ z. (heard_ledger z).history) x.is ∙ stands_is x.taken x.waiting (merged (part v h)) x.stands in record {
+        enough = inl (subst (λ z. SaysTheSame v (counted v z) (counted v (funded v h))) (sym (told ∙ ap merged (funded_before v h))) (says_counted v (funded v h)));
+        clean = λ n. ap (λ z. (heard_ledger z).bad) x.is;
       }
 
 -- ---- all ledgers
@@ -243,7 +291,7 @@ module _ (d : Deal) (v : ℕ) (k : Histories) (lines : ℕ → List (List ℕ)) 
 
   far_here : (a : ℕ) → touches d v a ≡ false → IsToldHere d v a (history k a) untold
   far_here a e = record {
-    enough = inl (subst (SaysTheSame v []) (sym (b.far a e)) nothing_said);
+    enough = inl (subst (λ h. SaysTheSame v [] (counted v (funded v h))) (sym (b.far a e)) nothing_said);
     clean = λ n. refl;
   }
 
@@ -261,7 +309,7 @@ module _ (d : Deal) (v : ℕ) (k : Histories) (lines : ℕ → List (List ℕ)) 
   empty_here : (a : ℕ) → length d.graph.arcs ≤ a → IsToldHere d v a (history k a) untold
   empty_here a le =
       let none : history k a ≡ [] = get_or_past k a [] (let count = b.one_each in omega arith) in record {
-        enough = inl (subst (SaysTheSame v []) (sym none) nothing_said);
+        enough = inl (subst (λ h. SaysTheSame v [] (counted v (funded v h))) (sym none) nothing_said);
         clean = λ n. refl;
       }
 
@@ -277,8 +325,16 @@ module _ (d : Deal) (v : ℕ) (k : Histories) (lines : ℕ → List (List ℕ)) 
     | inr ge ↦ subst (IsToldHere d v a (history k a)) (sym (get_or_past told a untold (let long = told_long in omega arith))) (empty_here a ge)
   ]
 
-  said : (a : ℕ) → SaysTheSame v (history (told_book told) a) (history k a) ⊎ AreUseless d v a (history (told_book told) a) (history k a)
-  said a = subst (λ h. SaysTheSame v h (history k a) ⊎ AreUseless d v a h (history k a)) (sym (told_history told a)) (here a).enough
+  kept_is : (a : ℕ) → history (all_counted v (all_funded v k)) a ≡ counted v (funded v (history k a))
+  kept_is a = counted_is v (all_funded v k) a ∙ ap (counted v) (funded_is v k a)
+
+  said : (a : ℕ) → SaysTheSame v (history (all_counted v (told_book told)) a) (history (all_counted v (all_funded v k)) a)
+      ⊎ AreUseless d v a (history (all_counted v (told_book told)) a) (history (all_counted v (all_funded v k)) a)
+  said a =
+      subst (λ h. SaysTheSame v h (history (all_counted v (all_funded v k)) a) ⊎ AreUseless d v a h (history (all_counted v (all_funded v k)) a))
+      (ap (counted v) (sym (told_history told a)) ∙ sym (counted_is v (told_book told) a))
+      (subst (λ h. SaysTheSame v (counted v (get_or told a untold).history) h ⊎ AreUseless d v a (counted v (get_or told a untold).history) h)
+      (sym (kept_is a)) (here a).enough)
 
   book_says_enough : IsToldEnough d v k told
   book_says_enough = record { enough = said; clean = λ a. (here a).clean }

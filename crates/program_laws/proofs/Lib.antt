@@ -11,6 +11,8 @@ pub mod Events
 pub mod Refused
 pub mod Apart
 pub mod ByWords
+pub mod Funded
+pub mod Merging
 pub mod Useless
 pub mod Needed
 pub mod Enough

@@ -1,5 +1,5 @@
 -- The line of an entry says it.
-use Rattle.std.proofs.Common.{◌≡◌, ◌&&◌, ◌||◌, ◌==◌, ◌+◌, ◌<◌, ◌++◌, ℕ, Bool, true, false, not, cond, List, [], ◌∷◌, length, map, decimal, None, Some}
+use Rattle.std.proofs.Common.{◌≡◌, ◌⊎◌, ◌&&◌, ◌||◌, ◌==◌, ◌+◌, ◌<◌, ◌++◌, ℕ, Bool, true, false, not, cond, List, [], ◌∷◌, length, map, decimal, None, Some}
 use Rattle.std.proofs.Common.{Option, Result, Ok, refl, sym, ap, ◌∙◌, subst, arith, eq-eqb, length-append}
 use Rattle.std.specs.Prelude.{codes}
 use Rattle.std.proofs.lemmas.Bool.{false≢true}
@@ -23,7 +23,12 @@ use Rattle.ledger_core.specs.declared.entry.Entry.{Entry}
 use Rattle.ledger_core.specs.History.{accepted_call, is_sender, made_call}
 use Rattle.swap_rules.specs.Party.{pick_call}
 use Rattle.swap_rules.specs.Rest.{is_ticking}
-use Rattle.wallet_promise.specs.WithoutNoise.{is_of_contract, is_told}
+use Rattle.swap_rules.specs.Counted.{all_counted, counted}
+use Rattle.swap_rules.proofs.Counted.{counted_is}
+use Rattle.ledger_core.specs.Book.{history}
+use Rattle.told_ledgers.specs.declared.told_ledger.ToldLedger.{ToldLedger}
+use Rattle.told_ledgers.specs.Telling.{told_book}
+use Rattle.wallet_promise.specs.WithoutNoise.{is_of_contract, is_told, AreUseless, SayEnough, SaysTheSame}
 use Rattle.typed_books.specs.Typed.{IsTypedCall, IsTypedReply, IsTypedSender, IsTypedWhat}
 use Rattle.transcript_book.specs.declared.said.Said.{Said}
 use Rattle.transcript_book.specs.declared.said.Misspelling.{Misspelling}
@@ -35,10 +40,11 @@ use Rattle.transcript_book.proofs.Spelling.{call_line_back}
 use Rattle.told_ledgers.specs.declared.kind.Kind.TheVariants.{Noise, Publish as PublishLine, Accepted as AcceptedLine}
 use Rattle.told_ledgers.specs.Words.{ends_accepted, line_kind, nth_word}
 use Rattle.told_ledgers.specs.Ledger.{is_correct_publish}
-use Rattle.program_laws.specs.Enough.{IsForeignLine, IsKindOfCall, call_kind, is_accepting, is_publish_call, is_transfer_call}
+use Rattle.program_laws.specs.Enough.{all_funded, IsForeignLine, IsKindOfCall, call_kind, is_accepting, is_publish_call, is_transfer_call}
 use Rattle.program_laws.specs.Written.{IsPossibleEntry, LinesAreHeard, WrittenIsSaid}
 use Rattle.program_laws.proofs.ByWords.{call_parts, ends_words, other_kind}
-use Rattle.program_laws.proofs.Enough.{lines_say_enough, small_party}
+use Rattle.program_laws.proofs.Enough.{all_paid, lines_say_enough, small_party}
+use Rattle.program_laws.proofs.Funded.{funded_is}
 
 -- ---- noise
 
@@ -216,5 +222,15 @@ written_is_said d v a e sized lt w =
     )
 
 pub lines_are_heard : LinesAreHeard
-lines_are_heard d v first b k lines kept sized lt told begins =
-    let x = lines_say_enough d v first k lines sized lt told in (x.0, x.1, record { says = x.2.enough; begins = begins })
+lines_are_heard d v first b k lines kept sized lt told paid begins handed =
+    let x = lines_say_enough d v first k lines sized lt told in (x.0, x.1, record { says = all_said x.0 x.2.enough; begins = begins; handed = handed })
+  where
+    same : (a : ℕ) → history (all_counted v (all_funded v k)) a ≡ history (all_counted v k) a
+    same a =
+        counted_is v (all_funded v k) a ∙ ap (counted v) (funded_is v k a ∙ all_paid v (history k a) (paid a)) ∙ sym (counted_is v k a)
+
+    all_said : (ts : List ToldLedger) → SayEnough d v (all_counted v (told_book ts)) (all_counted v (all_funded v k))
+        → SayEnough d v (all_counted v (told_book ts)) (all_counted v k)
+    all_said ts enough a =
+        subst (λ h. SaysTheSame v (history (all_counted v (told_book ts)) a) h ⊎ AreUseless d v a (history (all_counted v (told_book ts)) a) h) (same a)
+        (enough a)

@@ -1,5 +1,5 @@
 -- What is told without noise fits into an input.
-use Rattle.std.specs.Prelude.{◌≡◌, ◌≤◌, ◌+◌, ◌*◌, ℕ, Bool, true, false, List, count_by, length}
+use Rattle.std.specs.Prelude.{◌≤◌, Bool, true, false, List, count_by, length}
 use Rattle.std.specs.List.{AllByRecursion}
 use Rattle.ledger_core.specs.declared.entry.Call.{Call}
 use Rattle.ledger_core.specs.declared.entry.Call.TheVariants.{Publish, Unlock}

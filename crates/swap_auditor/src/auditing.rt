@@ -6,7 +6,7 @@ ghost use Rattle.swap_digraph.specs.Deal.{IsWellSized};
 ghost use Rattle.ledger_core.specs.Book.{IsLegalBook};
 ghost use Rattle.swap_rules.specs.Accepted.{IsAccepted};
 ghost use Rattle.swap_rules.specs.Laws.{FindsNothing, IsTransferred};
-ghost use Rattle.outcome_rules.specs.Promises.{AllAreConforming, AllAreWhole, AllHaveRefunds, NoneIsUnderwater, shown_outcome};
+ghost use Rattle.outcome_rules.specs.Promises.{AllAreConforming, AllArePaid, AllAreWhole, AllHaveRefunds, NobodyGains, NoneIsUnderwater, NoneLosesUnits, shown_outcome};
 ghost use Rattle.outcome_rules.specs.Report.{is_conforming_party};
 ghost use Rattle.swap_auditor.specs.Audit.{audited, replay_histories, AreUnitsConserved};
 ghost use Rattle.ledger_core.specs.WellFormed.{IsWellFormed};
@@ -60,7 +60,10 @@ pub fn audit_book(
     ensures legal { OnOk result (IsLegalBook deal.now book.now.histories) }
     ensures units { OnOk result (AreUnitsConserved deal.now book.now.histories) }
     ensures safe { IfOk result (λ r. NoneIsUnderwater deal.now conforming.now (shown_outcome r) r.findings) }
+    ensures gains { IfOk result (λ r. NobodyGains deal.now conforming.now book.now.histories (shown_outcome r) r.findings) }
     ensures refunds { IfOk result (λ r. AllHaveRefunds deal.now conforming.now book.now.histories r.findings) }
+    ensures paid { IfOk result (λ r. AllArePaid deal.now conforming.now book.now.histories r.findings) }
+    ensures lossless { IfOk result (λ r. NoneLosesUnits deal.now conforming.now book.now.histories r.findings) }
     ensures transfer { IfOk result (λ r. (k : IsAccepted deal.now) → AllAreConforming deal.now conforming.now → r.findings ≡ []
         → IsTransferred deal.now book.now.histories k) }
     ensures whole { IfOk result (λ r. AllAreConforming deal.now conforming.now → r.findings ≡ [] → AllAreWhole deal.now r) }

@@ -1,5 +1,6 @@
 -- What the command `audit` says.
 use Rattle.std.proofs.Common.{◌≡◌, inl, inr, ℕ, Bool, true, false, List, Option, Result, Ok, Err, sym, ap}
+use Rattle.swap_io.specs.Tape.{Tape}
 use Rattle.swap_io.specs.Causes.{AppendsProperPrefix}
 use Rattle.swap_io.specs.Handed.{AppendsPrefix}
 use Rattle.command_input.specs.declared.refusal.Refusal.{Refusal}
@@ -25,7 +26,7 @@ module _ (has : List ℕ → Bool) (gives : MayGive) where
   unfolding refusal_names
   named_by input refusal e = sym (ap names_told e)
 
-  abbrev read_by : (a b : Option (List ℕ)) (output : Result Written Refusal) → HasAuditAnswer a b output → HasRead has no_chance Audit a b (reason_alone output)
+  abbrev read_by : (a b : Tape) (output : Result Written Refusal) → HasAuditAnswer a b output → HasRead has no_chance Audit a b (reason_alone output)
   read_by a b output r = record {
     input = r.input;
     taken = r.taken;
@@ -34,7 +35,7 @@ module _ (has : List ℕ → Bool) (gives : MayGive) where
     gives = gives_by r.input output r.gives;
   }
 
-  written_by : (P Q : Written → Type 0) → ((w : Written) → P w → Q w) → (a b : Option (List ℕ)) → HasAuditOutput P a b → HasOutput has gives Q Audit a b
+  written_by : (P Q : Written → Type 0) → ((w : Written) → P w → Q w) → (a b : Tape) → HasAuditOutput P a b → HasOutput has gives Q Audit a b
   written_by P Q f a b o = record {
     chance = no_chance;
     output = o.output;
@@ -43,15 +44,15 @@ module _ (has : List ℕ → Bool) (gives : MayGive) where
     written = f o.output o.written;
   }
 
-  cut : (a b taken taken' : Option (List ℕ)) → HasAuditOutput (λ w. AppendsProperPrefix taken taken' w.text) a b
+  cut : (a b : Tape) (taken taken' : Option (List ℕ)) → HasAuditOutput (λ w. AppendsProperPrefix taken taken' w.text) a b
       → HasOutput has gives (λ w. AppendsProperPrefix taken taken' w.text) Audit a b
   cut a b taken taken' o = written_by (λ w. AppendsProperPrefix taken taken' w.text) (λ w. AppendsProperPrefix taken taken' w.text) (λ w x. x) a b o
 
-  short : (a b taken taken' : Option (List ℕ)) → HasAuditOutput (λ w. AppendsPrefix taken taken' w.text) a b
+  short : (a b : Tape) (taken taken' : Option (List ℕ)) → HasAuditOutput (λ w. AppendsPrefix taken taken' w.text) a b
       → HasOutput has gives (λ w. AppendsPrefix taken taken' w.text) Audit a b
   short a b taken taken' o = written_by (λ w. AppendsPrefix taken taken' w.text) (λ w. AppendsPrefix taken taken' w.text) (λ w x. x) a b o
 
-  pub says_audit : (a b : Option (List ℕ)) (n m : ℕ) (taken taken' : Option (List ℕ)) (p q : ℕ) (s : Status)
+  pub says_audit : (a b : Tape) (n m : ℕ) (taken taken' : Option (List ℕ)) (p q : ℕ) (s : Status)
       → AuditSays (streams a n taken p) (streams b m taken' q) s → StatusSays (given_strategies has gives) Audit (streams a n taken p) (streams b m taken' q) s
   says_audit a b n m taken taken' p q Done s = written_by (IsWrittenWhole taken taken' false) (IsWrittenWhole taken taken' false) (λ w x. x) a b s
   says_audit a b n m taken taken' p q Named s = written_by (IsWrittenWhole taken taken' true) (IsWrittenWhole taken taken' true) (λ w x. x) a b s

@@ -1,5 +1,6 @@
 -- What the command `clear` says, by how its parts ended.
 use Rattle.std.proofs.Common.{◌≡◌, ℕ, Bool, true, false, List, [], ◌∷◌, ◌++◌, Option, Ok, Err, refl, sym, ap, ◌∙◌, subst, append-nil}
+use Rattle.swap_io.specs.Tape.{Tape}
 use Rattle.swap_base.specs.Fault.{Fails}
 use Rattle.swap_base.specs.declared.fault.Fault.{Fault}
 use Rattle.swap_base.specs.declared.fault.Fault.TheVariants as offer
@@ -58,7 +59,7 @@ module _ (has : List ℕ → Bool) where
   -- ---- what is said against an input
 
   -- it has no line
-  pub empty_stops : (more : Bool) (left : Option (List ℕ)) (n : ℕ) (s : InputProgress) (now : Desk) (fault : InputFault Refusal) → s ≡ fresh → more ≡ false
+  pub empty_stops : (more : Bool) (left : Tape) (n : ℕ) (s : InputProgress) (now : Desk) (fault : InputFault Refusal) → s ≡ fresh → more ≡ false
       → GivesLine more (desk left n s) now → fault ≡ Refused (record { reason = NotJson 1; names = [] })
       → Stops (IsCommandRefusal has Clear) (desk left n fresh) now fault
   empty_stops more left n s now fault first none given is =
@@ -76,7 +77,7 @@ module _ (has : List ℕ → Bool) where
       subst (λ (f : InputFault Refusal). Stops (IsCommandRefusal has Clear) old now f) (sym is) t
 
   -- its first line is refused
-  against_line : (left : Option (List ℕ)) (n : ℕ) (now : Desk) (fault : Fault Reason) → IsLine (desk left n fresh) now
+  against_line : (left : Tape) (n : ℕ) (now : Desk) (fault : Fault Reason) → IsLine (desk left n fresh) now
       → Fails fault (cleared_line now.at.number now.at.text)
       → Stops (IsCommandRefusal has Clear) (desk left n fresh) now (named_fault [] (of_offer fault))
   against_line left n now offer.NoMemory p fails = no_memory_after (desk left n fresh) now p.bytes p.stands
@@ -89,7 +90,7 @@ module _ (has : List ℕ → Bool) where
         (line_fails now.at.number now.at.text (ahead now.at rest) r fails) refl;
   }
 
-  pub line_stops : (more : Bool) (left : Option (List ℕ)) (n : ℕ) (s : InputProgress) (now : Desk) (fault : Fault Reason) (line : ℕ) (text : List ℕ) → s ≡ fresh
+  pub line_stops : (more : Bool) (left : Tape) (n : ℕ) (s : InputProgress) (now : Desk) (fault : Fault Reason) (line : ℕ) (text : List ℕ) → s ≡ fresh
       → more ≡ true → GivesLine more (desk left n s) now → line ≡ now.at.number → text ≡ now.at.text → Fails fault (cleared_line line text)
       → Stops (IsCommandRefusal has Clear) (desk left n fresh) now (named_fault [] (of_offer fault))
   line_stops more left n s now fault line text first some given number same fails =
@@ -99,7 +100,7 @@ module _ (has : List ℕ → Bool) where
       against_line left n now fault p (subst (λ (t : List ℕ). Fails fault (cleared_line now.at.number t)) same f)
 
   -- a further line is a bad one, after the first was cleared
-  pub against_further : (left : Option (List ℕ)) (n : ℕ) (mid now : Desk) (text : List ℕ) → IsClearedLine mid.at.number mid.at.text text
+  pub against_further : (left : Tape) (n : ℕ) (mid now : Desk) (text : List ℕ) → IsClearedLine mid.at.number mid.at.text text
       → IsLine (desk left n fresh) mid → (fault : InputFault Refusal) → Stops (IsFurther mid.at) mid now fault
       → Stops (IsCommandRefusal has Clear) (desk left n fresh) now fault
   against_further left n mid now text c p fault s =
@@ -111,7 +112,7 @@ module _ (has : List ℕ → Bool) where
 
   -- ---- what the command says
 
-  pub says_clear : (may : MayGive) (left left' : Option (List ℕ)) (n m : ℕ) (taken taken' : Option (List ℕ)) (p q : ℕ) (now : InputProgress) (text : List ℕ)
+  pub says_clear : (may : MayGive) (left left' : Tape) (n m : ℕ) (taken taken' : Option (List ℕ)) (p q : ℕ) (now : InputProgress) (text : List ℕ)
       (status : Status) (e : Ends (λ bytes. IsCleared bytes text) (desk left n fresh) (desk left' m now)) → StatusWrites taken taken' p q (plain_text text) status
       → CommandSays (given_strategies has may) Clear (streams left n taken p) (streams left' m taken' q) status
   says_clear may left left' n m taken taken' p q now text status e w =
@@ -132,7 +133,7 @@ further_stops more s t fault some given is =
     subst (λ (f : InputFault Refusal). Stops (IsFurther s.at) s t f) (sym is) told
 
 -- one line was cleared, and no further one came
-pub is_cleared : (left : Option (List ℕ)) (n : ℕ) (mid now : Desk) (text : List ℕ) → IsLine (desk left n fresh) mid
+pub is_cleared : (left : Tape) (n : ℕ) (mid now : Desk) (text : List ℕ) → IsLine (desk left n fresh) mid
     → IsClearedLine mid.at.number mid.at.text text → IsLast mid now → Ends (λ bytes. IsCleared bytes text) (desk left n fresh) now
 is_cleared left n mid now text p c q = record {
   bytes = p.bytes ++ q.bytes;

@@ -1,5 +1,6 @@
 -- What the command `many` says, by how its parts ended.
 use Rattle.std.proofs.Common.{◌≡◌, ℕ, Bool, List, ◌++◌, fold, Option, Some, None, Result, Ok, Err, refl, sym, ap, ap₂, ◌∙◌, subst}
+use Rattle.swap_io.specs.Tape.{Tape}
 use Rattle.swap_base.specs.Fault.{◌>>=◌}
 use Rattle.command_input.proofs.Ahead.{stands_on}
 use Rattle.command_input.proofs.Streams.{can_come, stops_as, stops_same}
@@ -111,13 +112,13 @@ module _ (has : List ℕ → Bool) where
   against_heading : (bytes : List ℕ) (r : Refusal) → headed has (ahead fresh bytes) ≡ Err r → IsCommandRefusal has Many bytes r
   against_heading bytes r e = against_many bytes r (by_heading none bytes (Err r) e)
 
-  pub heading_stops : (left : Option (List ℕ)) (n : ℕ) (t : Desk) (fault : InputFault Refusal)
+  pub heading_stops : (left : Tape) (n : ℕ) (t : Desk) (fault : InputFault Refusal)
       → Stops (λ bytes r. headed has (ahead fresh bytes) ≡ Err r) (desk left n fresh) t fault → Stops (IsCommandRefusal has Many) (desk left n fresh) t fault
   heading_stops left n t fault k =
       stops_as (λ bytes r. headed has (ahead fresh bytes) ≡ Err r) (IsCommandRefusal has Many) against_heading (desk left n fresh) t fault k
 
   -- after the lines before the events
-  module _ (left : Option (List ℕ)) (n : ℕ) (mid now : Desk) (h : HeadingState) (p : IsHeading has h (desk left n fresh) mid) where
+  module _ (left : Tape) (n : ℕ) (mid now : Desk) (h : HeadingState) (p : IsHeading has h (desk left n fresh) mid) where
     -- what is said after them is said against the input
     events_against : (bytes : List ℕ) (r : Refusal) → CanBeLeft mid.at bytes → places_after_events h.many (ahead mid.at bytes) ≡ Err r
         → IsCommandRefusal has Many (p.bytes ++ bytes) r
@@ -217,7 +218,7 @@ module _ (has : List ℕ → Bool) where
         (gives_many g bytes (record { many = many; finish = finish; lines = k.lines }) k.events k.begun.places k.is_headed k.are_told k.begun.are_placed
         ∙ ap (λ (z : Kept). let r : Result Written Refusal = Ok (many_written many z) in r) (sym state_is))
 
-  pub says_many : (gives : MayGive) (left left' : Option (List ℕ)) (n m : ℕ) (taken taken' : Option (List ℕ)) (p q : ℕ) (now : InputProgress) (many : ManyJob)
+  pub says_many : (gives : MayGive) (left left' : Tape) (n m : ℕ) (taken taken' : Option (List ℕ)) (p q : ℕ) (now : InputProgress) (many : ManyJob)
       (finish : Finish) (w last : ManyState) (status : Status)
       (e : Ends (λ bytes. IsManyPlayed has gives bytes many finish w) (desk left n fresh) (desk left' m now))
       → AreSwaps many → HasManyGone gives (kept_after_finish finish) w last → StatusWrites taken taken' p q (many_written many (many_kept last)) status

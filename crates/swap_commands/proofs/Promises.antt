@@ -50,7 +50,13 @@ module _ (has : List ℕ → Bool) where
             (subst (λ (xs : List Entry). IsLegal job.deal a xs) e (kept.legal.legal a (omega (arith, few, same))));
         safe = laws.none_is_shown_underwater job.deal b (deal_outcomes job.deal b) refl job.conforming found
             (laws.none_is_underwater job.deal job.conforming b found kept.legal refl k);
+        gains = laws.none_is_shown_to_gain job.deal b (deal_outcomes job.deal b) refl job.conforming found
+            (laws.nobody_gains job.deal job.conforming b found kept.legal refl k);
         refunds = laws.all_have_refunds job.deal job.conforming b found kept.legal refl k;
+        paid = laws.all_are_paid job.deal job.conforming b found kept.legal refl k;
+        lossless = laws.none_loses_units job.deal job.conforming b found kept.legal refl k;
+        watchful = laws.watchful_are_whole job.deal job.conforming b found kept.legal refl k;
+        unpublished = laws.unpublished_lose_nothing job.deal job.conforming b found kept.legal refl k;
         transfer = laws.is_transferred job.deal job.conforming b found kept.legal refl k;
         whole = λ all none. laws.all_are_whole job.deal b (deal_outcomes job.deal b) refl k
             (laws.is_transferred job.deal job.conforming b found kept.legal refl k all none);

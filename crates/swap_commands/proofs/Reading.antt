@@ -1,6 +1,7 @@
 -- What is said against an input that is read line by line.
 use Rattle.std.proofs.Common.{◌≡◌, ◌≤◌, ℕ, Bool, true, false, List, [], ◌∷◌, ◌++◌, length, Option, Result, Ok, Err, refl, sym, ap, ◌∙◌, subst}
 use Rattle.std.proofs.Common.{arith, append-nil}
+use Rattle.swap_io.specs.Tape.{Tape}
 use Rattle.swap_base.specs.Fault.{◌>>=◌, Fails}
 use Rattle.swap_base.specs.declared.fault.Fault.{Fault}
 use Rattle.swap_base.specs.declared.fault.Fault.TheVariants as offer
@@ -146,14 +147,14 @@ module _ (has : List ℕ → Bool) where
   making_of_bytes bytes ls output e p = subst (λ (xs : List (ℕ × List ℕ)). IsMaking (job_of_lines has purposes.Make xs) output) (sym e) p
 
   -- the whole input was read, and it is no longer than it may be
-  pub set_contains_ends : (P : List ℕ → Type 0) (left left' : Option (List ℕ)) (n m : ℕ) (now : InputProgress) (e : Ends P (desk left n fresh) (desk left' m now))
+  pub set_contains_ends : (P : List ℕ → Type 0) (left left' : Tape) (n m : ℕ) (now : InputProgress) (e : Ends P (desk left n fresh) (desk left' m now))
       → length e.bytes ≤ limit
   set_contains_ends P left left' n m now e = omega (arith, e.stands.took.counted, e.stands.fits.within)
 
   -- What is said against an input.
 
   -- it has no line
-  pub empty_stops : (command : JobCommand) (more : Bool) (left : Option (List ℕ)) (n : ℕ) (s : InputProgress) (now : Desk) (fault : InputFault Refusal) → s ≡ fresh
+  pub empty_stops : (command : JobCommand) (more : Bool) (left : Tape) (n : ℕ) (s : InputProgress) (now : Desk) (fault : InputFault Refusal) → s ≡ fresh
       → more ≡ false → GivesLine more (desk left n s) now → fault ≡ Refused (record { reason = NotJson 1; names = [] })
       → Stops (IsCommandRefusal has (OfJob command)) (desk left n fresh) now fault
   empty_stops command more left n s now fault first none gives is =
@@ -171,7 +172,7 @@ module _ (has : List ℕ → Bool) where
       subst (λ (f : InputFault Refusal). Stops (IsCommandRefusal has (OfJob command)) old now f) (sym is) t
 
   -- its header is refused
-  against_header : (command : JobCommand) (left : Option (List ℕ)) (n : ℕ) (now : Desk) (fault : Fault Refusal) → IsLine (desk left n fresh) now
+  against_header : (command : JobCommand) (left : Tape) (n : ℕ) (now : Desk) (fault : Fault Refusal) → IsLine (desk left n fresh) now
       → Fails fault (named_result (header_names has (command_purpose command) now.at.number now.at.text) (parse_header_job has
       (command_purpose command) now.at.number now.at.text))
       → Stops (IsCommandRefusal has (OfJob command)) (desk left n fresh) now (of_offer fault)
@@ -192,7 +193,7 @@ module _ (has : List ℕ → Bool) where
             );
       }
 
-  pub header_stops : (command : JobCommand) (more : Bool) (left : Option (List ℕ)) (n : ℕ) (s : InputProgress) (now : Desk) (fault : Fault Refusal) (purpose : Purpose)
+  pub header_stops : (command : JobCommand) (more : Bool) (left : Tape) (n : ℕ) (s : InputProgress) (now : Desk) (fault : Fault Refusal) (purpose : Purpose)
       (line : ℕ) (text : List ℕ) → s ≡ fresh → more ≡ true → GivesLine more (desk left n s) now → purpose ≡ command_purpose command
       → line ≡ now.at.number → text ≡ now.at.text → Fails fault (named_result (header_names has purpose line text) (parse_header_job has purpose line text))
       → Stops (IsCommandRefusal has (OfJob command)) (desk left n fresh) now (of_offer fault)
@@ -208,7 +209,7 @@ module _ (has : List ℕ → Bool) where
       (parse_header_job has (command_purpose command) now.at.number t))) same g)
 
   -- A further line of it is refused, after its header was read.
-  pub against_event : {A : Type 0} (walk : List (ℕ × List ℕ) → Result A Reason) (command : JobCommand) (left : Option (List ℕ)) (n : ℕ) (mid now : Desk)
+  pub against_event : {A : Type 0} (walk : List (ℕ × List ℕ) → Result A Reason) (command : JobCommand) (left : Tape) (n : ℕ) (mid now : Desk)
       (names : List (List ℕ))
       → ((ls : List (ℕ × List ℕ)) (reason : Reason) → walk ls ≡ Err reason → of_header has no_chance command mid.at.number mid.at.text ls ≡ Err reason)
       → names ≡ header_names has (command_purpose command) mid.at.number mid.at.text → IsLine (desk left n fresh) mid → (fault : InputFault Reason)
@@ -246,7 +247,7 @@ module _ (has : List ℕ → Bool) where
   make_says n t job h ls reason e = make_by n t ls job (Err reason) h e
 
   -- the header and then the further lines were read
-  pub is_read : {A : Type 0} (purpose : Purpose) (walk : Job → List (ℕ × List ℕ) → Result A Reason) (left : Option (List ℕ)) (n : ℕ) (mid now : Desk)
+  pub is_read : {A : Type 0} (purpose : Purpose) (walk : Job → List (ℕ × List ℕ) → Result A Reason) (left : Tape) (n : ℕ) (mid now : Desk)
       (job : Job) (y : A) (p : IsLine (desk left n fresh) mid)
       → parse_header_job has purpose mid.at.number mid.at.text ≡ Ok job → (e : Ends (λ bytes. walk job (ahead mid.at bytes) ≡ Ok y) mid now)
       → Ends (λ bytes. IsReadInput has purpose walk bytes job y) (desk left n fresh) now

@@ -1,7 +1,9 @@
 -- What a command's status says, by how its parts ended.
 use Rattle.std.proofs.Common.{◌≡◌, ◌+◌, inl, inr, ℕ, Bool, List, [], ◌∷◌, Option, Ok, refl, sym, ap, ◌∙◌, arith}
-use Rattle.std.proofs.KnownBytes.{Consumes-nil, Keeps-refl}
+use Rattle.std.proofs.KnownBytes.{Keeps-refl}
+use Rattle.swap_io.proofs.ByteLaws.{Consumes-nil}
 use Rattle.std.specs.Io.KnownBytes.{Keeps}
+use Rattle.swap_io.specs.Tape.{Tape}
 use Rattle.swap_io.specs.Causes.{ConsumesAtMost, ConsumesSome}
 use Rattle.command_input.specs.declared.refusal.Refusal.{Refusal}
 use Rattle.ledger_core.specs.Book.{Histories}
@@ -43,19 +45,19 @@ use Rattle.swap_commands.proofs.Reading.{gives_make, making_of_bytes}
 use Rattle.swap_commands.specs.Strategies.{given_strategies}
 
 -- no more was taken than an input may have
-pub is_consumed : (left left' : Option (List ℕ)) (n m : ℕ) (now : InputProgress) → TookPart (desk left n fresh) (desk left' m now) → ConsumesAtMost left left' limit
+pub is_consumed : (left left' : Tape) (n m : ℕ) (now : InputProgress) → TookPart (desk left n fresh) (desk left' m now) → ConsumesAtMost left left' limit
 is_consumed left left' n m now t = (t.0.0, omega (arith, t.0.1.counted, t.1), t.0.1.consumed)
 
 -- nothing was taken
-pub none_consumed : (left : Option (List ℕ)) → ConsumesAtMost left left limit
+pub none_consumed : (left : Tape) → ConsumesAtMost left left limit
 none_consumed left = ([], omega arith, Consumes-nil left)
 
 -- more was taken than an input may have
-too_long : (left left' : Option (List ℕ)) (n m : ℕ) (now : InputProgress) → IsTooLong (desk left n fresh) (desk left' m now) → ConsumesSome left left' (limit + 1)
+too_long : (left left' : Tape) (n m : ℕ) (now : InputProgress) → IsTooLong (desk left n fresh) (desk left' m now) → ConsumesSome left left' (limit + 1)
 too_long left left' n m now t = (t.0.0, omega (arith, t.0.1.counted, t.1), t.0.1.consumed)
 
 module _ (has : List ℕ → Bool) where
-  pub says_written : (gives : MayGive) (a : Chance) (command : Command) (left left' : Option (List ℕ)) (n m : ℕ) (taken taken' : Option (List ℕ)) (p q : ℕ)
+  pub says_written : (gives : MayGive) (a : Chance) (command : Command) (left left' : Tape) (n m : ℕ) (taken taken' : Option (List ℕ)) (p q : ℕ)
       (output : Written) (r : HasRead has a command left left' (Ok output)) → AsPromised has gives a command r.input output
       → (s : Status) → StatusWrites taken taken' p q output s → StatusSays (given_strategies has gives) command (streams left n taken p) (streams left' m taken' q) s
   says_written gives a command left left' n m taken taken' p q output r promised Done w =
@@ -73,7 +75,7 @@ module _ (has : List ℕ → Bool) where
 
   -- Where the reading stopped.
 
-  pub says_unread : (gives : MayGive) (command : Command) (left left' : Option (List ℕ)) (n m : ℕ) (now : InputProgress) (taken taken' : Option (List ℕ)) (p q : ℕ)
+  pub says_unread : (gives : MayGive) (command : Command) (left left' : Tape) (n m : ℕ) (now : InputProgress) (taken taken' : Option (List ℕ)) (p q : ℕ)
       → Keeps taken taken'
       → (f : InputFault Refusal) → HasStopped (IsCommandRefusal has command) (desk left n fresh) (desk left' m now) f
       → StatusSays (given_strategies has gives) command (streams left n taken p) (streams left' m taken' q) (unread f)
@@ -95,7 +97,7 @@ module _ (has : List ℕ → Bool) where
   says_unread gives command left left' n m now taken taken' p q k fault.TooLong u = (too_long left left' n m now u.1, k)
 
   -- the status of a command whose input stopped and was drained, by the clauses of both calls
-  pub says_stopped : (gives : MayGive) (command : Command) (left left' left'' : Option (List ℕ)) (n m k : ℕ) (mid now : InputProgress) (taken : Option (List ℕ)) (p : ℕ)
+  pub says_stopped : (gives : MayGive) (command : Command) (left left' left'' : Tape) (n m k : ℕ) (mid now : InputProgress) (taken : Option (List ℕ)) (p : ℕ)
       (f answer : InputFault Refusal) → Stops (IsCommandRefusal has command) (desk left n fresh) (desk left' m mid) f
       → Drains (desk left' m mid) (desk left'' k now) f answer
       → CommandSays (given_strategies has gives) command (streams left n taken p) (streams left'' k taken p) (unread answer)
@@ -109,13 +111,13 @@ module _ (has : List ℕ → Bool) where
         calm = λ unless. calm_unread (IsCommandRefusal has command) first last answer stopped unless;
       }
 
-  pub all_consumed : (P : List ℕ → Type 0) (left left' : Option (List ℕ)) (n m : ℕ) (now : InputProgress) → Ends P (desk left n fresh) (desk left' m now)
+  pub all_consumed : (P : List ℕ → Type 0) (left left' : Tape) (n m : ℕ) (now : InputProgress) → Ends P (desk left n fresh) (desk left' m now)
       → ConsumesAtMost left left' limit
   all_consumed P left left' n m now e = (e.bytes, set_contains_ends has P left left' n m now e, e.stands.took.consumed)
 
   -- What a command says whose input was read whole.
 
-  pub says_whole : (gives : MayGive) (a : Chance) (command : Command) (P : List ℕ → Type 0) (left left' : Option (List ℕ)) (n m : ℕ)
+  pub says_whole : (gives : MayGive) (a : Chance) (command : Command) (P : List ℕ → Type 0) (left left' : Tape) (n m : ℕ)
       (taken taken' : Option (List ℕ)) (p q : ℕ) (now : InputProgress) (output : Written) (status : Status) (e : Ends P (desk left n fresh) (desk left' m now))
       → output_given_chance has a command e.bytes ≡ Ok output → AsPromised has gives a command e.bytes output → StatusWrites taken taken' p q output status
       → CommandSays (given_strategies has gives) command (streams left n taken p) (streams left' m taken' q) status
@@ -133,13 +135,13 @@ module _ (has : List ℕ → Bool) where
   }
 
   -- memory ran out before anything was written
-  pub says_short : (gives : MayGive) (command : Command) (P : List ℕ → Type 0) (left left' : Option (List ℕ)) (n m : ℕ) (taken : Option (List ℕ)) (p : ℕ)
+  pub says_short : (gives : MayGive) (command : Command) (P : List ℕ → Type 0) (left left' : Tape) (n m : ℕ) (taken : Option (List ℕ)) (p : ℕ)
       (now : InputProgress) (e : Ends P (desk left n fresh) (desk left' m now))
       → CommandSays (given_strategies has gives) command (streams left n taken p) (streams left' m taken p) NoMemory
   says_short gives command P left left' n m taken p now e =
       record { says = inl (Keeps-refl taken, all_consumed P left left' n m now e); calm = λ unless. e.stands.calm }
 
-  module _ (gives : MayGive) (transcript : Bool) (left left' : Option (List ℕ)) (n m : ℕ) (taken taken' : Option (List ℕ)) (p q : ℕ) where
+  module _ (gives : MayGive) (transcript : Bool) (left left' : Tape) (n m : ℕ) (taken taken' : Option (List ℕ)) (p q : ℕ) where
     says_played : (a : Answers) (now : InputProgress) (job : Job) (s : State) (b : Histories) (status : Status)
         (e : Ends (λ bytes. IsPlayed has a bytes job s) (desk left n fresh) (desk left' m now))
         → AreGiven gives job.deal a (finished_state job.finish (command_cast a job) s).asked
@@ -170,7 +172,7 @@ module _ (has : List ℕ → Bool) where
     says_run now job world b status e c k kept ended dealt w =
         says_played c.answers now job world.state b status (e c.answers c.continues) c.given c.book k kept c.recorded ended dealt w
 
-  pub says_race : (gives : MayGive) (ticks : ℕ) (transcript : Bool) (left left' : Option (List ℕ)) (n m : ℕ) (taken taken' : Option (List ℕ)) (p q : ℕ)
+  pub says_race : (gives : MayGive) (ticks : ℕ) (transcript : Bool) (left left' : Tape) (n m : ℕ) (taken taken' : Option (List ℕ)) (p q : ℕ)
       (job : Job) (b : Histories) (status : Status) → HasEntered has left left' job → IsAccepted job.deal → job.purpose ≡ purposes.Race
       → IsRaceBook gives (job_cast job) ticks b → StatusWrites taken taken' p q (reported transcript job b) status
       → StatusSays (given_strategies has gives) (OfJob (Race ticks transcript)) (streams left n taken p) (streams left' m taken' q) status
@@ -190,7 +192,7 @@ module _ (has : List ℕ → Bool) where
       status w
 
   -- the job of a race was read
-  pub has_entered : (left left' : Option (List ℕ)) (n m : ℕ) (now : InputProgress) (job : Job)
+  pub has_entered : (left left' : Tape) (n m : ℕ) (now : InputProgress) (job : Job)
       → Ends (λ bytes. IsEntered has bytes job) (desk left n fresh) (desk left' m now)
       → HasEntered has left left' job
   has_entered left left' n m now job e = record {
@@ -201,7 +203,7 @@ module _ (has : List ℕ → Bool) where
     entered = e.told;
   }
 
-  pub says_check : (gives : MayGive) (left left' : Option (List ℕ)) (n m : ℕ) (taken taken' : Option (List ℕ)) (p q : ℕ) (now : InputProgress) (job : Job)
+  pub says_check : (gives : MayGive) (left left' : Tape) (n m : ℕ) (taken taken' : Option (List ℕ)) (p q : ℕ) (now : InputProgress) (job : Job)
       (status : Status)
       (e : Ends (λ bytes. IsChecked has bytes job) (desk left n fresh) (desk left' m now))
       → IsAccepted job.deal → StatusWrites taken taken' p q (written_check job) status
@@ -213,7 +215,7 @@ module _ (has : List ℕ → Bool) where
       (is_check has e.told.line e.told.text e.told.others job tt (written_check job) e.told.header e.told.leads refl k))
       w
 
-  pub says_make : (gives : MayGive) (left left' : Option (List ℕ)) (n m : ℕ) (taken taken' : Option (List ℕ)) (p q : ℕ) (now : InputProgress) (job : Job)
+  pub says_make : (gives : MayGive) (left left' : Tape) (n m : ℕ) (taken taken' : Option (List ℕ)) (p q : ℕ) (now : InputProgress) (job : Job)
       (text : List ℕ) (status : Status)
       (e : Ends (λ bytes. IsCopied has bytes job text) (desk left n fresh) (desk left' m now))
       → IsMade job → StatusWrites taken taken' p q (plain_text text) status

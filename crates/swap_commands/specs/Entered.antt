@@ -1,6 +1,6 @@
 -- The job of a race, as it was read, and what is needed to race it.
 use Rattle.std.specs.Prelude.{◌≡◌, ◌≤◌, ℕ, Bool, List, length, Option}
-use Rattle.std.specs.Io.KnownBytes.{Consumes, IsAtEnd}
+use Rattle.swap_io.specs.Tape.{Consumes, IsAtEnd, Tape}
 use Rattle.swap_job.specs.declared.job.Job.{Job}
 use Rattle.swap_job.specs.declared.job.Purpose.TheVariants as purposes
 use Rattle.party_wallet.specs.Wallets.{new_wallets}
@@ -30,7 +30,7 @@ pub record CanRace (has : List ℕ → Bool) (p : Prepared) : Type 0 where
   pub made : p.wallets.items ≡ new_wallets p.job.deal p.job.conforming p.job.seeds
 
 -- The whole input was read, and it is the job of a race.
-pub record HasEntered (has : List ℕ → Bool) (left left' : Option (List ℕ)) (job : Job) : Type 0 where
+pub record HasEntered (has : List ℕ → Bool) (left left' : Tape) (job : Job) : Type 0 where
   pub input : List ℕ
   pub taken : Consumes left left' input
   pub ended : IsAtEnd left'
@@ -39,7 +39,7 @@ pub record HasEntered (has : List ℕ → Bool) (left left' : Option (List ℕ))
 
 -- The race wasn't entered, and this is why the reading stopped. The reason depends neither on the
 -- race's ticks nor on the text that was asked for.
-pub record HasNotEntered (has : List ℕ → Bool) (left left' : Option (List ℕ)) (n m : ℕ) (fault : InputFault Refusal) : Type 0 where
+pub record HasNotEntered (has : List ℕ → Bool) (left left' : Tape) (n m : ℕ) (fault : InputFault Refusal) : Type 0 where
   pub now : InputProgress
   pub stopped : (ticks : ℕ) (transcript : Bool)
       → HasStopped (IsCommandRefusal has (OfJob (Race ticks transcript))) (desk left n fresh) (desk left' m now) fault

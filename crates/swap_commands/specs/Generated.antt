@@ -1,6 +1,7 @@
 -- What is written of the job of a number, and what a status says of it.
 use Rattle.std.specs.Prelude.{◌≡◌, ℕ, true, List, Option, Some, if◌then◌else◌}
 use Rattle.std.specs.Io.KnownBytes.{Keeps}
+use Rattle.swap_io.specs.Tape.{Tape}
 use Rattle.ledger_core.specs.Book.{Histories}
 use Rattle.swap_job.specs.declared.job.Job.{Job}
 use Rattle.swap_rules.specs.Accepted.{IsAccepted}
@@ -50,7 +51,7 @@ pub record IsRequestStatus (taken taken' : Option (List ℕ)) (p q : ℕ) (r : R
 
 -- The words ask for the job of a number, which is accepted; nothing was read, what a summary
 -- promises holds, and P tells what was written.
-pub record Generates (P : Written → Type 0) (words : List (List ℕ)) (left left' : Option (List ℕ)) : Type 0 where
+pub record Generates (P : Written → Type 0) (words : List (List ℕ)) (left left' : Tape) : Type 0 where
   pub request : Request
   pub asks : words_request words ≡ Some request
   pub unread : left' ≡ left

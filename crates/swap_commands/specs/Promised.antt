@@ -16,7 +16,7 @@ use Rattle.swap_world.specs.Cast.{job_cast}
 use Rattle.swap_world.specs.Gone.{MayGive}
 use Rattle.outcome_rules.specs.declared.report.Report.{Report}
 use Rattle.outcome_rules.specs.Report.{is_conforming_party}
-use Rattle.outcome_rules.specs.Promises.{AllAreConforming, AllAreWhole, AllHaveRefunds, NoneIsUnderwater, shown_outcome}
+use Rattle.outcome_rules.specs.Promises.{AllAreConforming, AllArePaid, AllAreWhole, AllHaveRefunds, NobodyGains, NoneIsUnderwater, NoneLosesUnits, shown_outcome, UnpublishedLoseNothing, WatchfulAreWhole}
 use Rattle.swap_auditor.specs.Audit.{AreUnitsConserved}
 use Rattle.command_input.specs.Written.{Written}
 use Rattle.audit_command.specs.Promised.{IsAudit}
@@ -52,6 +52,16 @@ pub record IsPromised (job : Job) (b : Histories) (r : Report) : Type 0 where
   -- has its refunds
   pub safe : NoneIsUnderwater job.deal job.conforming (shown_outcome r) r.findings
   pub refunds : AllHaveRefunds job.deal job.conforming b r.findings
+  -- nobody gains by cheating, alone or together, unless a conforming party is endangered or forged
+  pub gains : NobodyGains job.deal job.conforming b (shown_outcome r) r.findings
+  -- in units: one that no finding endangers is paid in full as soon as it lost an arc, and one that
+  -- none strands either lost nothing, or is paid in full
+  pub paid : AllArePaid job.deal job.conforming b r.findings
+  pub lossless : NoneLosesUnits job.deal job.conforming b r.findings
+  -- whatever is found: a conducted and watchful party is safe and has its units, and a party that
+  -- published and transferred nothing has lost nothing
+  pub watchful : WatchfulAreWhole job.deal b
+  pub unpublished : UnpublishedLoseNothing job.deal b
   -- where all conform and nothing is found, all is transferred, and the report shows each party
   -- with the whole deal
   pub transfer : AllAreConforming job.deal job.conforming → r.findings ≡ [] → IsTransferred job.deal b accepted

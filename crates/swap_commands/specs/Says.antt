@@ -1,7 +1,8 @@
 -- What a command's status says, where command_output and refusal_names tell what the command writes
 -- for an input.
 use Rattle.std.specs.Prelude.{◌≡◌, ◌≤◌, ◌+◌, ◌⊎◌, ℕ, Bool, true, false, List, length, Option, Result, Ok, Err}
-use Rattle.std.specs.Io.KnownBytes.{Consumes, IsAtEnd, Keeps}
+use Rattle.std.specs.Io.KnownBytes.{Keeps}
+use Rattle.swap_io.specs.Tape.{Consumes, IsAtEnd, Tape}
 use Rattle.swap_io.specs.Causes.{ConsumesAtMost, ConsumesSome, AppendsProperPrefix}
 use Rattle.swap_io.specs.Handed.{AppendsPrefix}
 use Rattle.command_input.specs.declared.reason.Reason.{Reason}
@@ -18,7 +19,7 @@ use Rattle.command_input.specs.declared.status.Status.TheVariants.{Done, Named, 
 use Rattle.command_input.specs.Streams.{HasReadFault, HasWriteFault, Streams}
 
 -- The whole input was read, and this is the command's output for it, where chance decides so.
-pub record HasRead (has : List ℕ → Bool) (chance : Chance) (command : Command) (left left' : Option (List ℕ)) (output : Result Written Reason) : Type 0 where
+pub record HasRead (has : List ℕ → Bool) (chance : Chance) (command : Command) (left left' : Tape) (output : Result Written Reason) : Type 0 where
   pub input : List ℕ
   pub taken : Consumes left left' input
   pub ended : IsAtEnd left'
@@ -27,7 +28,7 @@ pub record HasRead (has : List ℕ → Bool) (chance : Chance) (command : Comman
 
 -- The input was read. It has an output by what chance decided, and the output is promised. P tells
 -- what was written of its text.
-pub record HasOutput (has : List ℕ → Bool) (gives : MayGive) (P : Written → Type 0) (command : Command) (left left' : Option (List ℕ)) : Type 0 where
+pub record HasOutput (has : List ℕ → Bool) (gives : MayGive) (P : Written → Type 0) (command : Command) (left left' : Tape) : Type 0 where
   pub chance : Chance
   pub output : Written
   pub read : HasRead has chance command left left' (Ok output)
@@ -35,7 +36,7 @@ pub record HasOutput (has : List ℕ → Bool) (gives : MayGive) (P : Written �
   pub written : P output
 
 -- The input was read and is refused for the reason, and these are the names in its header.
-pub record HasReason (has : List ℕ → Bool) (command : Command) (left left' : Option (List ℕ)) (reason : Reason) (names : List (List ℕ)) : Type 0 where
+pub record HasReason (has : List ℕ → Bool) (command : Command) (left left' : Tape) (reason : Reason) (names : List (List ℕ)) : Type 0 where
   pub read : HasRead has no_chance command left left' (Err reason)
   pub named : names ≡ refusal_names has command read.input
 

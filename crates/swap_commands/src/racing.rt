@@ -2,6 +2,7 @@
 //! written, or the transcript.
 
 ghost use Rattle.std.specs.Prelude.{◌≡◌, ◌≤◌, ℕ, Bool, List, Option, IfOk, IfErr, IsErrOf};
+ghost use Rattle.swap_io.specs.Tape.{Tape};
 ghost use Rattle.swap_commands.specs.Entered.{CanRace, HasEntered, HasNotEntered};
 ghost use Rattle.command_input.specs.Input.{Ends, Stops, desk, fresh};
 ghost use Rattle.command_input.specs.Streams.{streams};
@@ -86,7 +87,7 @@ pub fn race<R: Threads + Wait + Sync, K: Sink, G: Gate, A: Strategies + Sync>(
     requires can { CanRace (A.holds hooks.now.strategies.now) prepared }
     requires some { 1 ≤ order.ticks }
     requires below { order.ticks ≤ 1000 }
-    ensures { (left left' : Option (List ℕ)) (n m : ℕ) → HasEntered (A.holds hooks.now.strategies.now) left left' prepared.job
+    ensures { (left left' : Tape) (n m : ℕ) → HasEntered (A.holds hooks.now.strategies.now) left left' prepared.job
         → StatusSays (given_strategies (A.holds hooks.now.strategies.now) (A.gives hooks.now.strategies.now)) (OfJob (Race order.ticks order.transcript))
         (streams left n (K.taken sink.old) (K.faults sink.old)) (streams left' m (K.taken sink.new) (K.faults sink.new)) result }
 {

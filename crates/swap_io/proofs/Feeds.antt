@@ -1,11 +1,13 @@
 -- The first line feed of some bytes, and the steps of reading a line.
 use Rattle.std.proofs.Common.{◌≡◌, ◌==◌, ◌<◌, ◌≤◌, ◌+◌, ℕ, zero, suc, Bool, true, false, not, IsTrue, List, [], ◌∷◌, ◌++◌, length, take, drop, get_or}
-use Rattle.std.proofs.Common.{slice_index, Option, None, Some, IfSome, ◌↔◌, Result, Ok, Err, refl, sym, ap, ◌∙◌, arith, append_assoc}
+use Rattle.std.proofs.Common.{slice_index, Option, None, Some, IfSome, ◌↔◌, Result, Ok, Err, refl, sym, ap, ◌∙◌, subst, arith, append_assoc}
 use Rattle.std.proofs.Common.{length-append, drop-cons, add-one}
 use Rattle.std.proofs.lemmas.Bool.{and_from, and_parts}
 use Rattle.std.proofs.lemmas.Bool.Decides.{nat_tests}
 use Rattle.std.proofs.lemmas.List.{take-append-drop}
-use Rattle.std.proofs.KnownBytes.{Consumes-nil, Consumes-trans}
+use Rattle.swap_io.proofs.ByteLaws.{Consumes-nil, Consumes-trans}
+use Rattle.swap_io.specs.Tape.{Tape}
+use Rattle.std.specs.Io.KnownBytes as known
 use Rattle.memchr.specs.Find.{Nowhere, NoneBefore, Passes, is_byte}
 use Rattle.swap_io.specs.Lines.{Reading, lacks_feed, TookFromSource, IsNext, IsCutAtFeed, TakesLine, IsFilled, line_end_bytes, HasLineEnd}
 use Rattle.swap_io.specs.declared.line_end.LineEnd.{LineEnd}
@@ -50,10 +52,10 @@ both_lack (x ∷ xs) ys p q =
 
 -- What was taken.
 
-pub took_none : (left : Option (List ℕ)) (s t : Reading) → t.taken ≡ s.taken → t.limit ≡ s.limit → TookFromSource left left s t []
+pub took_none : (left : Tape) (s t : Reading) → t.taken ≡ s.taken → t.limit ≡ s.limit → TookFromSource left left s t []
 took_none left s t taken limit = record { consumed = Consumes-nil left; counted = omega (arith, taken); limit = limit }
 
-pub took_on : (a b c : Option (List ℕ)) (s t u : Reading) (xs ys : List ℕ) → TookFromSource a b s t xs → TookFromSource b c t u ys → TookFromSource a c s u (xs ++ ys)
+pub took_on : (a b c : Tape) (s t u : Reading) (xs ys : List ℕ) → TookFromSource a b s t xs → TookFromSource b c t u ys → TookFromSource a c s u (xs ++ ys)
 took_on a b c s t u xs ys p q = record {
   consumed = Consumes-trans a b c xs ys p.consumed q.consumed;
   counted = rw length-append (omega (arith, p.counted, q.counted));
@@ -61,7 +63,7 @@ took_on a b c s t u xs ys p q = record {
 }
 
 -- only what is kept has changed
-pub took_same : (a b : Option (List ℕ)) (s t u : Reading) (xs : List ℕ) → TookFromSource a b s t xs → u.taken ≡ t.taken → u.limit ≡ t.limit → TookFromSource a b s u xs
+pub took_same : (a b : Tape) (s t u : Reading) (xs : List ℕ) → TookFromSource a b s t xs → u.taken ≡ t.taken → u.limit ≡ t.limit → TookFromSource a b s u xs
 took_same a b s t u xs p taken limit = record { consumed = p.consumed; counted = taken ∙ p.counted; limit = limit ∙ p.limit }
 
 -- an answer that is no fault of reading, and no call that failed
@@ -85,7 +87,7 @@ pub all_of_it : (first bytes line line' kept more : List ℕ) → first ++ bytes
 all_of_it first bytes line line' kept more so_far wrote = sym (append_assoc first bytes more) ∙ ap (λ (xs : List ℕ). xs ++ more) (so_far ∙ sym wrote)
 
 -- A line that its line feed ends.
-pub is_ended : (a b : Option (List ℕ)) (r s t : Reading) (bytes line line' : List ℕ) (ended : Bool) → ended ≡ true → TookFromSource a b r s bytes
+pub is_ended : (a b : Tape) (r s t : Reading) (bytes line line' : List ℕ) (ended : Bool) → ended ≡ true → TookFromSource a b r s bytes
     → r.kept ++ bytes ≡ line ++ s.kept → IsTrue (lacks_feed line) → TakesLine ended s t line line'
     → t.taken ≡ s.taken → t.limit ≡ s.limit → IsNext a b r t line' Ended
 is_ended a b r s t bytes line line' false e took parts one cut taken limit = absurd (cc e)
@@ -98,7 +100,7 @@ is_ended a b r s t bytes line line' true e took parts one cut taken limit = reco
 }
 
 -- The line goes on in what is read next.
-pub more_taken : (a b c : Option (List ℕ)) (r s t u : Reading) (bytes line line' : List ℕ) (ended more : Bool) → ended ≡ false → more ≡ true
+pub more_taken : (a b c : Tape) (r s t u : Reading) (bytes line line' : List ℕ) (ended more : Bool) → ended ≡ false → more ≡ true
     → TookFromSource a b r s bytes → r.kept ++ bytes ≡ line ++ s.kept → TakesLine ended s t line line'
     → t.taken ≡ s.taken → t.limit ≡ s.limit → IsFilled more b c t u → (xs : List ℕ) × TookFromSource a c r u xs × (r.kept ++ xs ≡ line' ++ u.kept)
 more_taken a b c r s t u bytes line line' true more e f took parts moved taken limit filled = absurd (cc e)
@@ -115,7 +117,7 @@ still_lacks s t line line' true e one moved = absurd (cc e)
 still_lacks s t line line' false e one moved = rw moved.2 (both_lack line s.kept one moved.1)
 
 -- The rest of the input, which no line feed ends.
-pub is_rest : (a b c : Option (List ℕ)) (r s t u : Reading) (bytes line line' : List ℕ) (ended more : Bool) → ended ≡ false → more ≡ false
+pub is_rest : (a b c : Tape) (r s t u : Reading) (bytes line line' : List ℕ) (ended more : Bool) → ended ≡ false → more ≡ false
     → TookFromSource a b r s bytes → r.kept ++ bytes ≡ line ++ s.kept → IsTrue (lacks_feed line) → TakesLine ended s t line line'
     → t.taken ≡ s.taken → t.limit ≡ s.limit → IsFilled more b c t u → 0 < length line' → IsNext a c r u line' Rest
 is_rest a b c r s t u bytes line line' true more e f took parts one moved taken limit filled some = absurd (cc e)
@@ -134,30 +136,36 @@ nothing : (xs ys : List ℕ) → xs ++ ys ≡ [] → (xs ≡ []) × (ys ≡ [])
 nothing [] ys e = (refl, e)
 nothing (x ∷ xs) ys e = absurd (cc e)
 
-at_end : (xs ys : List ℕ) (s t : Reading) (line bytes : List ℕ) (end : LineEnd) → xs ≡ bytes ++ ys → s.kept ++ bytes ≡ line ++ (line_end_bytes end ++ t.kept)
-    → HasLineEnd end line (Some ys) t → (end ≡ End) ↔ ((s.kept ≡ []) × (xs ≡ []))
-at_end xs ys s t line bytes Ended told parts ends = (
+-- the end, where these bytes were left and those are left now
+at_end : (xs ys : List ℕ) (s t : Reading) (line bytes : List ℕ) (end : LineEnd) (left : Tape) → left.ahead ≡ Some ys → xs ≡ bytes ++ ys
+    → s.kept ++ bytes ≡ line ++ (line_end_bytes end ++ t.kept) → HasLineEnd end line left t → (end ≡ End) ↔ ((s.kept ≡ []) × (xs ≡ []))
+at_end xs ys s t line bytes Ended left is told parts ends = (
   λ e. absurd (cc e),
   λ none.
       let bs = nothing bytes ys (sym told ∙ none.1) in
       absurd (omega (arith, length-append line (10 ∷ t.kept), length-append s.kept bytes, ap length bs.0, ap length none.0, ap length parts)),
 )
-at_end xs ys s t line bytes Rest told parts ends = (
+at_end xs ys s t line bytes Rest left is told parts ends = (
   λ e. absurd (cc e),
   λ none.
       let bs = nothing bytes ys (sym told ∙ none.1) in
       absurd (omega (arith, ends.0, length-append line t.kept, length-append s.kept bytes, ap length bs.0, ap length none.0, ap length parts)),
 )
-at_end xs ys s t line bytes End told parts ends = (
+at_end xs ys s t line bytes End left is told parts ends = (
   λ e.
       let all : s.kept ++ bytes ≡ [] = parts ∙ ap (λ (zs : List ℕ). zs ++ t.kept) ends.0 ∙ ends.1.kept in
       let both = nothing s.kept bytes all in
-      (both.0, told ∙ ap (λ (zs : List ℕ). zs ++ ys) both.1 ∙ ends.1.none_left),
+      let none : ys ≡ [] = subst (λ (o : Option (List ℕ)). known.IsAtEnd o) is ends.1.none_left.known in
+      (both.0, told ∙ ap (λ (zs : List ℕ). zs ++ ys) both.1 ∙ none),
   λ none. refl,
 )
 
-pub is_end : (left left' : Option (List ℕ)) (s t : Reading) (line : List ℕ) (end : LineEnd) → IsNext left left' s t line end
-    → IfSome left (λ xs. (end ≡ End) ↔ ((s.kept ≡ []) × (xs ≡ [])))
-is_end None left' s t line end p = tt
-is_end (Some xs) None s t line end p = absurd p.took.consumed
-is_end (Some xs) (Some ys) s t line end p = at_end xs ys s t line p.bytes end p.took.consumed p.parts p.ends
+known_end : (o o' : Option (List ℕ)) (left' : Tape) (s t : Reading) (line bytes : List ℕ) (end : LineEnd) → left'.ahead ≡ o' → known.Consumes o o' bytes
+    → s.kept ++ bytes ≡ line ++ (line_end_bytes end ++ t.kept) → HasLineEnd end line left' t → IfSome o (λ xs. (end ≡ End) ↔ ((s.kept ≡ []) × (xs ≡ [])))
+known_end None o' left' s t line bytes end is told parts ends = tt
+known_end (Some xs) None left' s t line bytes end is told parts ends = absurd told
+known_end (Some xs) (Some ys) left' s t line bytes end is told parts ends = at_end xs ys s t line bytes end left' is told parts ends
+
+pub is_end : (left left' : Tape) (s t : Reading) (line : List ℕ) (end : LineEnd) → IsNext left left' s t line end
+    → IfSome left.ahead (λ xs. (end ≡ End) ↔ ((s.kept ≡ []) × (xs ≡ [])))
+is_end left left' s t line end p = known_end left.ahead left'.ahead left' s t line p.bytes end refl p.took.consumed.known p.parts p.ends

@@ -1,6 +1,7 @@
 -- When a call of the outside may answer a fault, and what was read or written then.
 use Rattle.std.specs.Prelude.{◌≡◌, ◌<◌, ◌≤◌, ◌+◌, ◌-◌, ◌^◌, ℕ, min, List, length, take, Option, Result, OnErr}
-use Rattle.std.specs.Io.KnownBytes.{Appends, Consumes}
+use Rattle.std.specs.Io.KnownBytes.{Appends}
+use Rattle.swap_io.specs.Tape.{Tape, Consumes}
 
 -- a count after one more, which stays at its last value
 abbrev pub next_count : ℕ → ℕ
@@ -16,11 +17,11 @@ pub record HasCause {T E : Type 0} (before now : ℕ) (result : Result T E) : Ty
   pub failed : OnErr result (Rose before now)
 
 -- exactly n bytes were consumed
-abbrev pub ConsumesSome : Option (List ℕ) → Option (List ℕ) → ℕ → Type 0
+abbrev pub ConsumesSome : Tape → Tape → ℕ → Type 0
 ConsumesSome old new n = (bytes : List ℕ) × (length bytes ≡ n) × Consumes old new bytes
 
 -- at most n bytes were consumed
-abbrev pub ConsumesAtMost : Option (List ℕ) → Option (List ℕ) → ℕ → Type 0
+abbrev pub ConsumesAtMost : Tape → Tape → ℕ → Type 0
 ConsumesAtMost old new n = (bytes : List ℕ) × (length bytes ≤ n) × Consumes old new bytes
 
 -- a proper prefix of the bytes was appended

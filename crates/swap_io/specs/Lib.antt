@@ -1,3 +1,4 @@
+pub mod Tape
 pub mod Causes
 pub mod Counted
 pub mod Supply

@@ -1,15 +1,17 @@
 //! std's reader and writer as a source and a sink, which tell their bytes as far as the reader or
-//! the writer does.
+//! the writer does. The source tells the bytes that its reads gave, whatever the reader tells.
 
-ghost use Rattle.std.specs.Prelude.{◌≡◌, ◌<◌, ◌↔◌, [], length, IfOk, IfSome, OnOk, MatchResult};
+ghost use Rattle.std.specs.Prelude.{◌≡◌, ◌<◌, ◌↔◌, [], false, length, IfOk, IfSome, OnOk, MatchResult};
 ghost use Rattle.std.specs.Io.{ReadsAtMost, WritesAtMost};
-ghost use Rattle.std.specs.Io.KnownBytes.{ReadConsumes, WriteAppends};
+ghost use Rattle.std.specs.Io.KnownBytes.{WriteAppends};
+ghost use Rattle.swap_io.specs.Tape.{ReadConsumes};
 ghost use Rattle.swap_io.specs.Causes.{next_count, HasCause};
-ghost use Rattle.swap_io.specs.Counted.{Counted};
+ghost use Rattle.swap_io.specs.Counted.{Counted, IsTraced, ReadSoFar};
 
 use crate::fault::Failed;
 use crate::sink::Sink;
 use crate::source::Source;
+use crate::trace::{Piece, Trace};
 use std::io::{Read, Write};
 use std::marker::Model;
 
@@ -18,42 +20,54 @@ use std::marker::Model;
 pub struct ReaderSource<R: Read> {
     inner: R,
     faults: u64,
+    trace: Trace,
 }
 
 impl<R: Read> Model for ReaderSource<R> {
-    ghost Value = { Counted R };
+    ghost Value = { ReadSoFar R };
 
-    ghost view = { λ s. record { inner = s.inner; faults = s.faults } };
+    ghost view = { λ s. record { inner = s.inner; faults = s.faults; given = s.trace.bytes; ended = s.trace.ended } };
 }
 
 impl<R: Read> ReaderSource<R> {
+    /// Before the first read.
     pub fn new(inner: R) -> ReaderSource<R>
-        ensures { result ≡ record { inner = inner; faults = 0 } }
+        ensures { result ≡ record { inner = inner; faults = 0; given = []; ended = false } }
     {
-        ReaderSource { inner, faults: 0 }
+        ReaderSource {
+            inner,
+            faults: 0,
+            trace: Trace::new(),
+        }
     }
 }
 
 impl<R: Read> Source for ReaderSource<R> {
-    ghost left = { λ s. R.remaining s.inner };
+    ghost left = { λ s. record { ahead = R.remaining s.inner; given = s.given; ended = s.ended } };
 
     ghost faults = { λ s. s.faults };
 
     fn read(&mut self, buf: &mut [u8]) -> Result<usize, Failed>
         requires room { 0 < length buf.old }
         ensures bound { ReadsAtMost result buf.new }
-        ensures bytes { ReadConsumes (R.remaining self.old.inner) (R.remaining self.new.inner)
-            result buf.new }
+        ensures bytes { ReadConsumes (record { ahead = R.remaining self.old.inner; given = self.old.given; ended = self.old.ended })
+            (record { ahead = R.remaining self.new.inner; given = self.new.given; ended = self.new.ended }) result buf.new }
         ensures end { IfOk result (λ n. IfSome (R.remaining self.old.inner) (λ xs. (n ≡ 0) ↔ (xs ≡ []))) }
         ensures cause { HasCause self.old.faults self.new.faults result }
         ensures calm { OnOk result (self.new.faults ≡ self.old.faults) }
 
-        // The exact count.
+        // The exact count, and the exact trace.
         ensures counts { MatchResult result (λ _. self.new.faults ≡ self.old.faults)
             (λ _. self.new.faults ≡ next_count self.old.faults) }
+        ensures traced { IsTraced self.old self.new result buf.new }
     {
         match self.inner.read(buf) {
-            Ok(count) => Ok(count),
+            Ok(count) => {
+                self.trace = self.trace.then(&Piece {
+                    bytes: &buf[..count],
+                });
+                Ok(count)
+            }
             Err(_) => {
                 self.faults = self.faults.saturating_add(1);
                 Err(Failed)

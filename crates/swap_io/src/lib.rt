@@ -5,8 +5,9 @@
 //! `read_all` and `write_all` say what was read or written at each of their answers. `Lines` gives
 //! one line after another and keeps little: read `specs/Lines.antt`. `flush_waiting` and `flush`
 //! hand a text to a sink piece by piece: read `specs/Handed.antt`. `ReaderSource` and `WriterSink`
-//! adapt std's reader and writer, and tell nothing of content. `VecSource` and `VecSink` lie in
-//! memory and fail where they are told to; `TextSink` grows.
+//! adapt std's reader and writer. A source tells the bytes that its reads gave: read
+//! `specs/Tape.antt`; `TracedSink` tells those that the writes of any sink took. `VecSource` and
+//! `VecSink` lie in memory and fail where they are told to; `TextSink` grows.
 #![tactic(auto)]
 
 mod edge;
@@ -17,6 +18,8 @@ mod memory;
 mod sink;
 mod source;
 mod text_sink;
+mod trace;
+mod traced_sink;
 mod waiting;
 
 pub use edge::{ReaderSource, WriterSink};
@@ -27,4 +30,5 @@ pub use memory::{VecSink, VecSource};
 pub use sink::{Sink, write_all};
 pub use source::{Source, read_all};
 pub use text_sink::TextSink;
+pub use traced_sink::TracedSink;
 pub use waiting::{flush, flush_waiting};

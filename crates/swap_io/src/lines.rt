@@ -1,7 +1,7 @@
 //! The lines of a source, one after another, through a buffer.
 
 ghost use Rattle.std.specs.Prelude.{◌≡◌, ◌<◌, ◌≤◌, ◌+◌, ◌^◌, ◌↔◌, [], length, take, drop, IsTrue, MatchOption, IfOk, IfSome, IsErrOf, OnOk};
-ghost use Rattle.std.specs.Io.KnownBytes.{IsAtEnd};
+ghost use Rattle.swap_io.specs.Tape.{IsAtEnd};
 ghost use Rattle.swap_io.specs.Causes.{Rose};
 ghost use Rattle.swap_io.specs.Lines.{Reading, feeds, lacks_feed, past_feeds, TookFromSource, TookSome, IsNext, IsCutAtFeed, TakesLine, IsFilled};
 
@@ -198,7 +198,7 @@ impl Lines {
         ensures most { self.new.taken ≤ self.new.limit + 1 }
 
         // The end of the input, where the source tells its bytes.
-        ensures end { IfOk result (λ end. IfSome (S.left source.old) (λ xs. (end ≡ LineEnd.End) ↔ ((self.old.kept ≡ []) × (xs ≡ [])))) }
+        ensures end { IfOk result (λ end. IfSome (S.left source.old).ahead (λ xs. (end ≡ LineEnd.End) ↔ ((self.old.kept ≡ []) × (xs ≡ [])))) }
 
         // The causes of faults.
         ensures too_long { IsErrOf result LineFault.TooLong ↔ (self.new.limit < self.new.taken) }

@@ -1,10 +1,11 @@
 //! A source and a sink in memory. Their calls fail where they are told to.
 
-ghost use Rattle.std.specs.Prelude.{◌≡◌, ◌<◌, ◌≤◌, ◌↔◌, ◌⊎◌, [], length, drop, Contains, Some, IfOk, IsOk, IsErr, OnOk, vec_capacity};
+ghost use Rattle.std.specs.Prelude.{◌≡◌, ◌<◌, ◌≤◌, ◌↔◌, ◌⊎◌, [], length, take, drop, Contains, Some, IfOk, IsOk, IsErr, OnOk, vec_capacity};
 ghost use Rattle.std.specs.Io.{ReadsAtMost, WritesAtMost};
-ghost use Rattle.std.specs.Io.KnownBytes.{ReadConsumes, WriteAppends};
+ghost use Rattle.std.specs.Io.KnownBytes.{WriteAppends};
 ghost use Rattle.swap_io.specs.Causes.{HasCause};
-ghost use Rattle.swap_io.specs.Supply.{Supply, given, after_read, Store, IsFull, accepted_byte_count, after_write};
+ghost use Rattle.swap_io.specs.Tape.{ReadConsumes};
+ghost use Rattle.swap_io.specs.Supply.{Supply, supply_tape, given, after_read, Store, IsFull, accepted_byte_count, after_write};
 
 use crate::fault::Failed;
 use crate::sink::Sink;
@@ -29,6 +30,7 @@ impl Model for VecSource {
 
     ghost view = { λ s. record {
       left = drop s.at s.bytes.items;
+      gave = take s.at s.bytes.items;
       per_call = s.per_call;
       failing = s.failing.items;
       calls = s.calls;
@@ -45,6 +47,7 @@ impl VecSource {
         requires { 0 < per_call }
         ensures { result ≡ record {
           left = bytes.items;
+          gave = [];
           per_call = per_call;
           failing = failing.items;
           calls = 0;
@@ -63,14 +66,14 @@ impl VecSource {
 }
 
 impl Source for VecSource {
-    ghost left = { λ s. Some s.left };
+    ghost left = { λ s. supply_tape s };
 
     ghost faults = { λ s. s.faults };
 
     fn read(&mut self, buf: &mut [u8]) -> Result<usize, Failed>
         requires room { 0 < length buf.old }
         ensures bound { ReadsAtMost result buf.new }
-        ensures bytes { ReadConsumes (Some self.old.left) (Some self.new.left) result buf.new }
+        ensures bytes { ReadConsumes (supply_tape self.old) (supply_tape self.new) result buf.new }
         ensures end { IfOk result (λ n. (n ≡ 0) ↔ (self.old.left ≡ [])) }
         ensures cause { HasCause self.old.faults self.new.faults result }
         ensures calm { OnOk result (self.new.faults ≡ self.old.faults) }

@@ -1,8 +1,8 @@
 //! A source of bytes, and reading one to its end.
 
-ghost use Rattle.std.specs.Prelude.{◌≡◌, ◌<◌, ◌≤◌, ◌+◌, ◌↔◌, ◌⊎◌, ℕ, List, [], length, vec_len, Option, IfSome, IfOk, OnOk, IsErrOf, MatchResult};
+ghost use Rattle.std.specs.Prelude.{◌≡◌, ◌<◌, ◌≤◌, ◌+◌, ◌↔◌, ◌⊎◌, ℕ, List, [], length, vec_len, Some, IfSome, IfOk, OnOk, IsErrOf, MatchResult};
 ghost use Rattle.std.specs.Io.{ReadsAtMost};
-ghost use Rattle.std.specs.Io.KnownBytes.{ReadConsumes, Consumes, IsAtEnd};
+ghost use Rattle.swap_io.specs.Tape.{Tape, ReadConsumes, Consumes, IsAtEnd};
 ghost use Rattle.swap_io.specs.Causes.{Rose, HasCause, ConsumesSome, ConsumesAtMost};
 
 use crate::fault::{Failed, ReadAllFault};
@@ -10,8 +10,8 @@ use std::alloc::Global;
 
 /// Where bytes are read from.
 pub trait Source {
-    // The bytes that are left, where the source tells them.
-    ghost left: { Self → Option (List ℕ) };
+    // The bytes that its reads gave, and those that are left, where the source knows them.
+    ghost left: { Self → Tape };
 
     // How many calls have failed, held at 2^64 - 1.
     ghost faults: { Self → ℕ };
@@ -22,7 +22,7 @@ pub trait Source {
         requires room { 0 < length buf.old }
         ensures bound { ReadsAtMost result buf.new }
         ensures bytes { ReadConsumes (left self.old) (left self.new) result buf.new }
-        ensures end { IfOk result (λ n. IfSome (left self.old) (λ xs. (n ≡ 0) ↔ (xs ≡ []))) }
+        ensures end { IfOk result (λ n. IfSome (left self.old).ahead (λ xs. (n ≡ 0) ↔ (xs ≡ []))) }
         ensures cause { HasCause (faults self.old) (faults self.new) result }
         ensures calm { OnOk result (faults self.new ≡ faults self.old) };
 }
@@ -54,10 +54,10 @@ pub fn read_all<S: Source>(
     ensures calm { ¬ IsErrOf result ReadAllFault.ReadFault → S.faults source.new ≡ S.faults source.old }
 
     // The answer to an input that the source tells, where no call fails.
-    ensures short { (xs : List ℕ) → S.left source.old ≡ Some xs → length xs ≤ limit
+    ensures short { (xs : List ℕ) → (S.left source.old).ahead ≡ Some xs → length xs ≤ limit
         → ¬ Rose (S.faults source.old) (S.faults source.new)
         → MatchResult result (λ v. v.items ≡ xs) (λ e. e ≡ ReadAllFault.NoMemory) }
-    ensures long { (xs : List ℕ) → S.left source.old ≡ Some xs → limit < length xs
+    ensures long { (xs : List ℕ) → (S.left source.old).ahead ≡ Some xs → limit < length xs
         → ¬ Rose (S.faults source.old) (S.faults source.new)
         → IsErrOf result ReadAllFault.TooLong ⊎ IsErrOf result ReadAllFault.NoMemory }
 {

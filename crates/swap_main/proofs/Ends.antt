@@ -2,6 +2,8 @@
 use Rattle.std.proofs.Common.{◌≡◌, ◌<◌, ◌≤◌, ◌+◌, ◌⊎◌, inl, inr, ℕ, Bool, true, false, List, length, Option, Some, None, Result, Ok, Err, refl}
 use Rattle.std.proofs.Common.{sym, ap, ◌∙◌, subst, arith, length-append}
 use Rattle.std.specs.Io.KnownBytes.{Keeps}
+use Rattle.swap_io.specs.Tape.{IsInput, Tape}
+use Rattle.swap_io.proofs.ByteLaws.{input_bounds}
 use Rattle.swap_io.specs.Causes.{ConsumesAtMost, ConsumesSome}
 use Rattle.command_input.specs.declared.reason.Reason.{Reason}
 use Rattle.command_input.specs.Input.{limit}
@@ -21,12 +23,9 @@ use Rattle.swap_main.proofs.Fairly.{all_read, fails_by, is_not_named, is_not_ref
 
 module _ (has : List ℕ → Bool) where
   -- more bytes can't be taken than are left
-  past_all : (left left' : Option (List ℕ)) (input : List ℕ) (n : ℕ) → left ≡ Some input → length input < n → ¬ ConsumesSome left left' n
-  past_all None left' input n told short some = cc told
-  past_all (Some xs) None input n told short some = some.2
-  past_all (Some xs) (Some ys) input n told short some =
-      let e : ◌≡◌ {A = List ℕ} xs input = cc told in
-      absurd (omega (arith, short, some.1, ap length e, ap length some.2, length-append some.0 ys))
+  past_all : (left left' : Tape) (input : List ℕ) (n : ℕ) → IsInput left left' input → length input < n → ¬ ConsumesSome left left' n
+  past_all left left' input n told short some =
+      absurd (omega (arith, short, some.1, input_bounds left left' input some.0 told some.2))
 
   module _ (gives : MayGive) (words : List (List ℕ)) (before after : Streams)
       (command : Command) (asked : words_command words ≡ Some command) where
@@ -114,10 +113,10 @@ module _ (has : List ℕ → Bool) where
     pub not_wrong_words : (s : Status) → Said s → ¬ (s ≡ WrongWords)
     not_wrong_words s h e = subst Said e h
 
-    -- where the source tells its bytes
+    -- of what the source has left, or gave up to its end
 
     same_input : (a : Chance) (output : Result Written Reason) (r : HasRead has a command before.left after.left output) (input : List ℕ)
-        → before.left ≡ Some input
+        → IsInput before.left after.left input
         → r.input ≡ input
     same_input a output r input told = all_read has before.left after.left input r.input told r.taken r.ended
 
@@ -126,11 +125,11 @@ module _ (has : List ℕ → Bool) where
 
     -- what was read was no more than may be
     not_long : (a : Chance) (output : Result Written Reason) (r : HasRead has a command before.left after.left output) (input : List ℕ)
-        → before.left ≡ Some input
+        → IsInput before.left after.left input
         → limit < length input → ⊥
     not_long a output r input told over = absurd (omega (arith, over, r.within, ap length (same_input a output r input told)))
 
-    pub long : (s : Status) → Said s → (other : Command) (input : List ℕ) → words_command words ≡ Some other → before.left ≡ Some input → limit < length input
+    pub long : (s : Status) → Said s → (other : Command) (input : List ℕ) → words_command words ≡ Some other → IsInput before.left after.left input → limit < length input
         → ¬ HasReadFault before after → (s ≡ TooLong) ⊎ (s ≡ NoMemory)
     long Done h other input is told over calm = absurd (not_long h.chance (Ok h.output) h.read input told over)
     long Named h other input is told over calm = absurd (not_long h.chance (Ok h.output) h.read input told over)
@@ -141,22 +140,22 @@ module _ (has : List ℕ → Bool) where
     long NoMemory h other input is told over calm = inr refl
     long TooLong h other input is told over calm = inl refl
 
-    -- what the command gives for the input that the source tells
+    -- what the command gives for the input that is left or was given
     given : (a : Chance) (output : Result Written Reason) (r : HasRead has a command before.left after.left output) (other : Command) (input : List ℕ)
-        → words_command words ≡ Some other → before.left ≡ Some input → output_given_chance has a other input ≡ output
+        → words_command words ≡ Some other → IsInput before.left after.left input → output_given_chance has a other input ≡ output
     given a output r other input is told =
         ap (λ (c : Command). output_given_chance has a c input) (sym (same_command other is))
         ∙ ap (output_given_chance has a command) (sym (same_input a output r input told)) ∙ r.gives
 
-    -- a promise of what was read is one of what the source tells
+    -- a promise of what was read is one of the input
     kept : (a : Chance) (output : Written) (r : HasRead has a command before.left after.left (Ok output)) (other : Command) (input : List ℕ)
         → words_command words ≡ Some other
-        → before.left ≡ Some input → AsPromised has gives a command r.input output → AsPromised has gives a other input output
+        → IsInput before.left after.left input → AsPromised has gives a command r.input output → AsPromised has gives a other input output
     kept a output r other input is told k =
         subst (λ (c : Command). AsPromised has gives a c input output) (same_command other is)
         (subst (λ (xs : List ℕ). AsPromised has gives a command xs output) (same_input a (Ok output) r input told) k)
 
-    pub bad : (s : Status) → Said s → (other : Command) (input : List ℕ) (reason : Reason) → words_command words ≡ Some other → before.left ≡ Some input
+    pub bad : (s : Status) → Said s → (other : Command) (input : List ℕ) (reason : Reason) → words_command words ≡ Some other → IsInput before.left after.left input
         → length input ≤ limit → command_output has other input ≡ Err reason → ¬ HasReadFault before after
         → (s ≡ Refused reason (refusal_names has other input)) ⊎ (s ≡ NoMemory)
     bad Done h other input reason is told within against calm =
@@ -176,7 +175,7 @@ module _ (has : List ℕ → Bool) where
     bad TooLong h other input reason is told within against calm = absurd (past_all before.left after.left input (limit + 1) told (omega (arith, within)) h.0)
 
     output_status : (found : Bool) → HasOutput has gives (IsWrittenWhole before.taken after.taken found) command before.left after.left
-        → (other : Command) (input : List ℕ) → words_command words ≡ Some other → before.left ≡ Some input
+        → (other : Command) (input : List ℕ) → words_command words ≡ Some other → IsInput before.left after.left input
         → IsOutputStatus has gives other input (command_status found)
     output_status found o other input is told = record {
       chance = o.chance;
@@ -186,7 +185,7 @@ module _ (has : List ℕ → Bool) where
       status = ap command_status (sym o.written.1);
     }
 
-    pub good : (s : Status) → Said s → (other : Command) (input : List ℕ) (output : Written) → words_command words ≡ Some other → before.left ≡ Some input
+    pub good : (s : Status) → Said s → (other : Command) (input : List ℕ) (output : Written) → words_command words ≡ Some other → IsInput before.left after.left input
         → length input ≤ limit → command_output has other input ≡ Ok output → ¬ HasReadFault before after → ¬ HasWriteFault before after
         → IsOutputStatus has gives other input s ⊎ (s ≡ NoMemory)
     good Done h other input output is told within made calm still = inl (output_status false h other input is told)
@@ -200,7 +199,7 @@ module _ (has : List ℕ → Bool) where
     good TooLong h other input output is told within made calm still =
         absurd (past_all before.left after.left input (limit + 1) told (omega (arith, within)) h.0)
 
-    pub fair : (s : Status) → Said s → AsksFairRun has words before.left → ¬ HasReadFault before after → ¬ HasWriteFault before after
+    pub fair : (s : Status) → Said s → AsksFairRun has words before.left after.left → ¬ HasReadFault before after → ¬ HasWriteFault before after
         → (s ≡ Done) ⊎ (s ≡ NoMemory)
     fair Done h a calm still = inl refl
     fair Named h a calm still =
@@ -215,7 +214,7 @@ module _ (has : List ℕ → Bool) where
     fair NoMemory h a calm still = inr refl
     fair TooLong h a calm still = absurd (past_all before.left after.left a.input (limit + 1) a.told (omega (arith, a.within)) h.0)
 
-    pub fair_race : (s : Status) → Said s → AsksFairRace has words before.left → ¬ HasReadFault before after → ¬ HasWriteFault before after
+    pub fair_race : (s : Status) → Said s → AsksFairRace has words before.left after.left → ¬ HasReadFault before after → ¬ HasWriteFault before after
         → (s ≡ Done) ⊎ (s ≡ NoMemory)
     fair_race Done h a calm still = inl refl
     fair_race Named h a calm still =
@@ -229,7 +228,7 @@ module _ (has : List ℕ → Bool) where
     fair_race NoMemory h a calm still = inr refl
     fair_race TooLong h a calm still = absurd (past_all before.left after.left a.input (limit + 1) a.told (omega (arith, a.within)) h.0)
 
-    pub fair_many : (s : Status) → Said s → AsksFairMany has words before.left → ¬ HasReadFault before after → ¬ HasWriteFault before after
+    pub fair_many : (s : Status) → Said s → AsksFairMany has words before.left after.left → ¬ HasReadFault before after → ¬ HasWriteFault before after
         → (s ≡ Done) ⊎ (s ≡ NoMemory)
     fair_many Done h a calm still = inl refl
     fair_many Named h a calm still =

@@ -1,7 +1,7 @@
 -- A fair run of several swaps whose parties all conform is refused for no reason, and nothing is
 -- found of it.
 use Rattle.std.proofs.Common.{◌≡◌, ◌==◌, ◌<◌, ℕ, suc, ◌+◌, Bool, false, not, List, [], ◌∷◌, length, Option, Some, Result, Ok, Err, refl, sym, ap, ◌∙◌, subst, arith}
-use Rattle.std.specs.Io.KnownBytes.{Consumes, IsAtEnd}
+use Rattle.swap_io.specs.Tape.{Consumes, IsAtEnd, Tape}
 use Rattle.swap_job.specs.declared.job.Job.{Job}
 use Rattle.swap_job.specs.declared.job.Finish.TheVariants.{Fair}
 use Rattle.outcome_rules.specs.Promises.{AllAreConforming}
@@ -44,8 +44,8 @@ none_from z k (job ∷ jobs) none =
 first_is : (i : ℕ) → i ≡ 0 + i
 first_is i = omega arith
 
-module _ (has : List ℕ → Bool) (words : List (List ℕ)) (left left' : Option (List ℕ)) (command : Command) (items : List ℕ)
-    (asked : words_command words ≡ Some command) (taken : Consumes left left' items) (end : IsAtEnd left') (a : AsksFairMany has words left) where
+module _ (has : List ℕ → Bool) (words : List (List ℕ)) (left left' : Tape) (command : Command) (items : List ℕ)
+    (asked : words_command words ≡ Some command) (taken : Consumes left left' items) (end : IsAtEnd left') (a : AsksFairMany has words left left') where
   is_many : command ≡ Many
   is_many = cc (sym asked ∙ a.asked)
 

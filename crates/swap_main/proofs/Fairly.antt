@@ -1,7 +1,8 @@
 -- A fair run of parties that all conform is refused for no reason, and nothing is found of it.
 use Rattle.std.proofs.Common.{◌≤◌, ◌*◌, ◌≡◌, ◌==◌, ℕ, Bool, false, not, List, [], ◌++◌, length, Option, Some, None, Result, Ok, Err, sym, ap, ◌∙◌}
 use Rattle.std.proofs.Common.{subst, append-nil}
-use Rattle.std.specs.Io.KnownBytes.{Consumes, IsAtEnd}
+use Rattle.swap_io.specs.Tape.{Consumes, IsAtEnd, IsInput, Tape}
+use Rattle.swap_io.proofs.ByteLaws.{input_read}
 use Rattle.swap_job.specs.declared.event.Event.{Event}
 use Rattle.swap_job.specs.declared.job.Job.{Job}
 use Rattle.swap_job.specs.declared.job.Finish.TheVariants.{Fair}
@@ -22,13 +23,9 @@ use Rattle.swap_commands.proofs.ManySaying.{many_fails_by}
 use Rattle.swap_main.specs.Top.{AsksFairRace, AsksFairRun}
 
 module _ (has : List ℕ → Bool) where
-  -- all that was left was read
-  pub all_read : (left left' : Option (List ℕ)) (input items : List ℕ) → left ≡ Some input → Consumes left left' items → IsAtEnd left' → items ≡ input
-  all_read None left' input items told taken end = absurd (cc told)
-  all_read (Some xs) None input items told taken end = absurd taken
-  all_read (Some xs) (Some ys) input items told taken end =
-      let e : xs ≡ input = cc told in
-      sym (append-nil items) ∙ ap (λ (zs : List ℕ). items ++ zs) (sym end) ∙ sym taken ∙ e
+  -- all of the input was read
+  pub all_read : (left left' : Tape) (input items : List ℕ) → IsInput left left' input → Consumes left left' items → IsAtEnd left' → items ≡ input
+  all_read left left' input items told taken end = input_read left left' input items told taken end
 
   -- nothing is told of as found where nothing is
   told_found : (transcript : Bool) (job : Job) (b : Histories) (output : Written) → output ≡ reported transcript job b → (book_report job b).findings ≡ []
@@ -51,8 +48,8 @@ module _ (has : List ℕ → Bool) where
       told_found transcript p.job (collected_book a p.job p.events) output p.shown (p.fair (ap (λ (j : Job). j.finish) s.0 ∙ fair) s.1
       (subst (λ (j : Job). AllAreConforming j.deal j.conforming) (sym s.0) all))
 
-  module _ (words : List (List ℕ)) (left left' : Option (List ℕ)) (command : Command) (items : List ℕ) (asked : words_command words ≡ Some command)
-      (taken : Consumes left left' items) (end : IsAtEnd left') (a : AsksFairRun has words left) where
+  module _ (words : List (List ℕ)) (left left' : Tape) (command : Command) (items : List ℕ) (asked : words_command words ≡ Some command)
+      (taken : Consumes left left' items) (end : IsAtEnd left') (a : AsksFairRun has words left left') where
     is_a_run : command ≡ OfJob (Run a.transcript)
     is_a_run = cc (sym asked ∙ a.asked)
 
@@ -69,8 +66,8 @@ module _ (has : List ℕ → Bool) where
         ap (λ (q : Result (Job × List Event) Reason). job_output no_chance (Run a.transcript) (filled_lines 1 (collect_lines items)) q) (sym is_read) ∙ r in
         cc w
 
-  module _ (gives : MayGive) (chance : Chance) (words : List (List ℕ)) (left left' : Option (List ℕ)) (command : Command) (items : List ℕ)
-      (asked : words_command words ≡ Some command) (taken : Consumes left left' items) (end : IsAtEnd left') (a : AsksFairRun has words left) where
+  module _ (gives : MayGive) (chance : Chance) (words : List (List ℕ)) (left left' : Tape) (command : Command) (items : List ℕ)
+      (asked : words_command words ≡ Some command) (taken : Consumes left left' items) (end : IsAtEnd left') (a : AsksFairRun has words left left') where
     pub is_not_named : (output : Written) → AsPromised has gives chance command items output → output.found ≡ false
     is_not_named output p =
         nothing_found gives chance.answers a.transcript a.job (parse_job has purposes.Run items) output
@@ -88,8 +85,8 @@ module _ (has : List ℕ → Bool) where
       told_found transcript p.job b output p.shown
       (p.dealt (subst (λ (j : Job). 2 * ticks ≤ j.deal.delta) (sym s.0) fits) (subst (λ (j : Job). AllAreConforming j.deal j.conforming) (sym s.0) all))
 
-  module _ (words : List (List ℕ)) (left left' : Option (List ℕ)) (command : Command) (items : List ℕ) (asked : words_command words ≡ Some command)
-      (taken : Consumes left left' items) (end : IsAtEnd left') (a : AsksFairRace has words left) where
+  module _ (words : List (List ℕ)) (left left' : Tape) (command : Command) (items : List ℕ) (asked : words_command words ≡ Some command)
+      (taken : Consumes left left' items) (end : IsAtEnd left') (a : AsksFairRace has words left left') where
     is_a_race : command ≡ OfJob (Race a.ticks a.transcript)
     is_a_race = cc (sym asked ∙ a.asked)
 
@@ -108,8 +105,8 @@ module _ (has : List ℕ → Bool) where
         (sym is_read_raced) ∙ r in
         cc w
 
-  module _ (gives : MayGive) (chance : Chance) (words : List (List ℕ)) (left left' : Option (List ℕ)) (command : Command) (items : List ℕ)
-      (asked : words_command words ≡ Some command) (taken : Consumes left left' items) (end : IsAtEnd left') (a : AsksFairRace has words left) where
+  module _ (gives : MayGive) (chance : Chance) (words : List (List ℕ)) (left left' : Tape) (command : Command) (items : List ℕ)
+      (asked : words_command words ≡ Some command) (taken : Consumes left left' items) (end : IsAtEnd left') (a : AsksFairRace has words left left') where
     pub race_is_not_named : (output : Written) → AsPromised has gives chance command items output → output.found ≡ false
     race_is_not_named output p =
         nothing_found_raced gives chance.book a.ticks a.transcript a.job (parse_job has purposes.Race items) output

@@ -7,3 +7,4 @@ pub mod Ends
 pub mod Asking
 pub mod Performing
 pub mod Naming
+pub mod Processes

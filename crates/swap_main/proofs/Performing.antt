@@ -2,6 +2,7 @@
 use Rattle.std.proofs.Common.{◌≡◌, ◌≤◌, ◌⊎◌, ◌↔◌, inl, inr, ℕ, Bool, List, map, Option, Some, None, option_and_then, refl, sym, ap, ◌∙◌, subst}
 use Rattle.std.specs.Io.KnownBytes.{Keeps}
 use Rattle.std.proofs.KnownBytes.{Keeps-refl}
+use Rattle.swap_io.specs.Tape.{Tape}
 use Rattle.swap_io.specs.Causes.{ConsumesAtMost}
 use Rattle.swap_io.specs.Handed.{AppendsPrefix}
 use Rattle.swap_world.specs.Gone.{MayGive}
@@ -106,7 +107,7 @@ module _ (who : Strategies) (words : List (List ℕ)) (before after : Streams) w
       named = λ e. inr (asking.named words before after request asked unread few many s h e);
       refused = λ reason names e. absurd (asking.not_refused words before after request asked unread few many s h reason names e);
       read_fault = λ e. absurd (asking.no_read_fault words before after request asked unread few many s h e);
-      part = λ e. subst (λ (x : Option (List ℕ)). ConsumesAtMost before.left x limit) (sym unread) (none_consumed before.left);
+      part = λ e. subst (λ (x : Tape). ConsumesAtMost before.left x limit) (sym unread) (none_consumed before.left);
       write_fault = asking.write_fault words before after request asked unread few many s h;
       cut = λ e. inr (asking.cut words before after request asked unread few many s h e);
       too_long = λ e. absurd (asking.not_too_long words before after request asked unread few many s h e);
@@ -135,7 +136,7 @@ module _ (who : Strategies) (words : List (List ℕ)) (before after : Streams) w
 -- Words with a task aren't wrong. Here what is said of the streams stands part by part, so that a
 -- call of it need not name them.
 
-pub said_is_right : (has : List ℕ → Bool) (gives : MayGive) (command : Command) (left left' : Option (List ℕ)) (n m : ℕ) (taken taken' : Option (List ℕ))
+pub said_is_right : (has : List ℕ → Bool) (gives : MayGive) (command : Command) (left left' : Tape) (n m : ℕ) (taken taken' : Option (List ℕ))
     (p q : ℕ) (s : Status) → StatusSays (given_strategies has gives) command (streams left n taken p) (streams left' m taken' q) s → ¬ (s ≡ WrongWords)
 said_is_right has gives command left left' n m taken taken' p q s h e =
     subst (λ (t : Status). StatusSays (given_strategies has gives) command (streams left n taken p) (streams left' m taken' q) t) e h

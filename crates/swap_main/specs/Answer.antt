@@ -3,6 +3,7 @@ use Rattle.std.specs.Prelude.{◌≡◌, ◌<◌, ◌≤◌, ◌+◌, ◌⊎◌,
 use Rattle.std.specs.Io.KnownBytes.{Keeps}
 use Rattle.swap_io.specs.Causes.{AppendsProperPrefix, ConsumesAtMost, ConsumesSome}
 use Rattle.swap_io.specs.Handed.{AppendsPrefix}
+use Rattle.swap_io.specs.Tape.{IsInput}
 use Rattle.command_input.specs.declared.reason.Reason.{Reason}
 use Rattle.command_input.specs.Written.{IsWrittenWhole, Written}
 use Rattle.swap_commands.specs.Words.{Command, words_command, words_request}
@@ -35,19 +36,20 @@ pub record IsAnswer (who : Strategies) (words : List (List ℕ)) (before after :
       ⊎ Generates (λ output. AppendsPrefix before.taken after.taken output.text) words before.left after.left
   -- With any other status nothing is written.
   pub silent : ¬ (s ≡ Done) → ¬ (s ≡ Named) → ¬ (s ≡ WriteFault) → ¬ (s ≡ NoMemory) → Keeps before.taken after.taken
-  -- What is answered where the source tells its bytes and no call fails.
-  pub long : (command : Command) (input : List ℕ) → words_command words ≡ Some command → before.left ≡ Some input → limit < length input
+  -- What is answered where no call fails: to what the source has left, where it knows that, and to
+  -- what it gave up to its end.
+  pub long : (command : Command) (input : List ℕ) → words_command words ≡ Some command → IsInput before.left after.left input → limit < length input
       → ¬ HasReadFault before after
       → (s ≡ TooLong) ⊎ (s ≡ NoMemory)
-  pub bad : (command : Command) (input : List ℕ) (reason : Reason) → words_command words ≡ Some command → before.left ≡ Some input → length input ≤ limit
+  pub bad : (command : Command) (input : List ℕ) (reason : Reason) → words_command words ≡ Some command → IsInput before.left after.left input → length input ≤ limit
       → command_output who.holds command input ≡ Err reason → ¬ HasReadFault before after
       → (s ≡ Refused reason (refusal_names who.holds command input)) ⊎ (s ≡ NoMemory)
-  pub good : (command : Command) (input : List ℕ) (output : Written) → words_command words ≡ Some command → before.left ≡ Some input → length input ≤ limit
+  pub good : (command : Command) (input : List ℕ) (output : Written) → words_command words ≡ Some command → IsInput before.left after.left input → length input ≤ limit
       → command_output who.holds command input ≡ Ok output → ¬ HasReadFault before after → ¬ HasWriteFault before after
       → IsOutputStatus who.holds who.gives command input s ⊎ (s ≡ NoMemory)
-  pub fair_run : AsksFairRun who.holds words before.left → ¬ HasReadFault before after → ¬ HasWriteFault before after → (s ≡ Done) ⊎ (s ≡ NoMemory)
-  pub fair_race : AsksFairRace who.holds words before.left → ¬ HasReadFault before after → ¬ HasWriteFault before after → (s ≡ Done) ⊎ (s ≡ NoMemory)
-  pub fair_many : AsksFairMany who.holds words before.left → ¬ HasReadFault before after → ¬ HasWriteFault before after → (s ≡ Done) ⊎ (s ≡ NoMemory)
+  pub fair_run : AsksFairRun who.holds words before.left after.left → ¬ HasReadFault before after → ¬ HasWriteFault before after → (s ≡ Done) ⊎ (s ≡ NoMemory)
+  pub fair_race : AsksFairRace who.holds words before.left after.left → ¬ HasReadFault before after → ¬ HasWriteFault before after → (s ≡ Done) ⊎ (s ≡ NoMemory)
+  pub fair_many : AsksFairMany who.holds words before.left after.left → ¬ HasReadFault before after → ¬ HasWriteFault before after → (s ≡ Done) ⊎ (s ≡ NoMemory)
   -- The job of a number is made without reading, and no status speaks of an input then.
   pub no_read_fault : (request : Request) → words_request words ≡ Some request → ¬ (s ≡ ReadFault)
   pub not_too_long : (request : Request) → words_request words ≡ Some request → ¬ (s ≡ TooLong)

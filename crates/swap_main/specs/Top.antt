@@ -1,6 +1,7 @@
 -- What each status of the program says.
 use Rattle.std.specs.Prelude.{◌≡◌, ◌<◌, ◌≤◌, ◌*◌, ℕ, Bool, List, [], length, Option, Some, Result, Ok, Err, if◌then◌else◌}
-use Rattle.std.specs.Io.KnownBytes.{Appends, Consumes, IsAtEnd}
+use Rattle.std.specs.Io.KnownBytes.{Appends}
+use Rattle.swap_io.specs.Tape.{Consumes, IsAtEnd, IsInput, Tape}
 use Rattle.swap_io.specs.Causes.{AppendsProperPrefix}
 use Rattle.swap_io.specs.Handed.{AppendsPrefix}
 use Rattle.command_input.specs.declared.reason.Reason.{Reason}
@@ -26,7 +27,7 @@ use Rattle.command_input.specs.Streams.{Streams}
 
 -- The words are a command, the whole input was read, and this is the command's output for it, where
 -- chance decides so.
-pub record Read (has : List ℕ → Bool) (chance : Chance) (words : List (List ℕ)) (left left' : Option (List ℕ)) (output : Result Written Reason) : Type 0 where
+pub record Read (has : List ℕ → Bool) (chance : Chance) (words : List (List ℕ)) (left left' : Tape) (output : Result Written Reason) : Type 0 where
   pub command : Command
   pub asked : words_command words ≡ Some command
   pub input : List ℕ
@@ -64,17 +65,17 @@ pub record IsCutShort (who : Strategies) (words : List (List ℕ)) (before after
 
 -- The input was read to its end and is refused for the reason, and these are the names in its
 -- header.
-pub record IsRefused (has : List ℕ → Bool) (words : List (List ℕ)) (left left' : Option (List ℕ)) (reason : Reason) (names : List (List ℕ)) : Type 0 where
+pub record IsRefused (has : List ℕ → Bool) (words : List (List ℕ)) (left left' : Tape) (reason : Reason) (names : List (List ℕ)) : Type 0 where
   pub read : Read has no_chance words left left' (Err reason)
   pub named : names ≡ refusal_names has read.command read.input
 
 -- The words ask for a run, and the input is an offer of parties that all conform, with a fair
 -- finish and no event before it.
-pub record AsksFairRun (has : List ℕ → Bool) (words : List (List ℕ)) (left : Option (List ℕ)) : Type 0 where
+pub record AsksFairRun (has : List ℕ → Bool) (words : List (List ℕ)) (left left' : Tape) : Type 0 where
   pub transcript : Bool
   pub asked : words_command words ≡ Some (OfJob (Run transcript))
   pub input : List ℕ
-  pub told : left ≡ Some input
+  pub told : IsInput left left' input
   pub within : length input ≤ limit
   pub job : Job
   pub read : parse_job has purposes.Run input ≡ Ok (job, [])
@@ -83,12 +84,12 @@ pub record AsksFairRun (has : List ℕ → Bool) (words : List (List ℕ)) (left
 
 -- The words ask for a race, two rounds' ticks of it fit in delta, and the input is an offer of
 -- conforming parties alone.
-pub record AsksFairRace (has : List ℕ → Bool) (words : List (List ℕ)) (left : Option (List ℕ)) : Type 0 where
+pub record AsksFairRace (has : List ℕ → Bool) (words : List (List ℕ)) (left left' : Tape) : Type 0 where
   pub ticks : ℕ
   pub transcript : Bool
   pub asked : words_command words ≡ Some (OfJob (Race ticks transcript))
   pub input : List ℕ
-  pub told : left ≡ Some input
+  pub told : IsInput left left' input
   pub within : length input ≤ limit
   pub job : Job
   pub read : parse_job has purposes.Race input ≡ Ok (job, [])
@@ -97,10 +98,10 @@ pub record AsksFairRace (has : List ℕ → Bool) (words : List (List ℕ)) (lef
 
 -- The words ask for several swaps. In the input all parties of all swaps conform, there is a fair
 -- finish with no event before it, and each account has what is set aside from it.
-pub record AsksFairMany (has : List ℕ → Bool) (words : List (List ℕ)) (left : Option (List ℕ)) : Type 0 where
+pub record AsksFairMany (has : List ℕ → Bool) (words : List (List ℕ)) (left left' : Tape) : Type 0 where
   pub asked : words_command words ≡ Some Many
   pub input : List ℕ
-  pub told : left ≡ Some input
+  pub told : IsInput left left' input
   pub within : length input ≤ limit
   pub head : Headed
   pub read : headed has (filled_lines 1 (collect_lines input)) ≡ Ok head

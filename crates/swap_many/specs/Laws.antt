@@ -165,7 +165,7 @@ abbrev pub EverySwapIsSafe : Type 0
 EverySwapIsSafe =
     (m : Setup) (events : List ManyEvent) (s v : ℕ) → IsReadySetup m → All (CanCome m) events → s < m.swaps → v < (m.cast s).deal.graph.n
     → conforms (m.cast s) v ≡ true
-    → list_any (is_against_party v) (findings (m.cast s).deal (conforms (m.cast s)) (book m (many_finish m (many_run m events)).chains s)) ≡ false
+    → list_any (is_against_party (m.cast s).deal v) (findings (m.cast s).deal (conforms (m.cast s)) (book m (many_finish m (many_run m events)).chains s)) ≡ false
     → (list_any (names_party (m.cast s).deal v)
     (findings (m.cast s).deal (conforms (m.cast s)) (book m (many_finish m (many_run m events)).chains s)) ≡ false
     → outcome (m.cast s).deal (book m (many_finish m (many_run m events)).chains s) v ≢ Underwater)

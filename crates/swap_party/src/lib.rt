@@ -4,9 +4,11 @@
 //! Each call puts a text into the caller's buffer, whole or not at all, and answers a status with
 //! the text's length. What C sees stands in `swap_party.h`.
 //!
-//! Read `specs/Said.antt` first: what the calls say.
+//! Read `specs/Said.antt` first: what the calls say; then `specs/Program.antt`: what is said of the
+//! program `swap`.
 #![tactic(auto)]
 
+mod answer;
 mod check;
 mod deal;
 mod keys;
@@ -14,6 +16,7 @@ mod next;
 mod said;
 mod terms;
 
+pub use answer::swap_party_answer;
 pub use check::swap_party_check;
 pub use deal::swap_party_deal;
 pub use keys::swap_party_keys;

@@ -22,11 +22,14 @@ const SHORT: u32 = 1;
 /// The answer, in which a line tells of something that should not be.
 pub(crate) const WARNED: u32 = 2;
 
-const REFUSED: u32 = 3;
+pub(crate) const REFUSED: u32 = 3;
 
 pub(crate) const NO_MEMORY: u32 = 6;
 
 pub(crate) const TOO_LONG: u32 = 7;
+
+/// The words of the program ask for nothing.
+pub(crate) const WRONG_WORDS: u32 = 8;
 
 /// Puts a text into the buffer, if it has room for it.
 pub(crate) fn say(status: u32, text: &[u8], out: &mut [u8]) -> Said

@@ -21,7 +21,7 @@ use Rattle.swap_rules.specs.declared.finding.Rule.TheVariants.{Unlock as ToUnloc
 use Rattle.swap_rules.specs.Party.{is_correct, publication_height, is_good, is_ready, ready_height, is_triggered, expiry, pick_call, first_key, least_expiry}
 use Rattle.swap_rules.specs.Conduct.{is_first_key, keeps, IsConducted}
 use Rattle.swap_rules.specs.Late.{height_of_opening, unlock_base, trigger_height, when, reference_height, is_late}
-use Rattle.swap_rules.specs.Outcome.{is_claim, is_got, IsEnded}
+use Rattle.swap_rules.specs.Outcome.{is_claim, is_got, EnteringHaveEnded}
 use Rattle.swap_digraph.proofs.Paths.{in-is_listed}
 use Rattle.swap_rules.proofs.Words.{and_five, unlock_rule, enters, act_of}
 use Rattle.swap_rules.proofs.Times.{TimesLaw}
@@ -87,12 +87,12 @@ pub unlocks_in_time : (d : Deal) (b : Histories) (v : ℕ) → IsOnTime d b v �
 unlocks_in_time d b v on_time i a below j = on_time (ToUnlock i) a (unlock_rule d i below) j
 
 -- an unlock that is due, and isn't late, is called by its due height
-pub call_due : (d : Deal) (b : Histories) (v : ℕ) → IsLegalBook d b → IsEnded d b → IsConducted d b v → UnlocksInTime d b v → (a i : ℕ)
+pub call_due : (d : Deal) (b : Histories) (v : ℕ) → IsLegalBook d b → EnteringHaveEnded d b v → IsConducted d b v → UnlocksInTime d b v → (a i : ℕ)
     → IsElement a (entering d.graph v) → (due : DueUnlock d b v a i) → UnlockCall d b v a i (due.ref + d.delta)
 unfolding keeps
 call_due d b v legal ended conducted unlocks a i w due =
     let in_arc = enters d v a w in
-    let now_ended : times.horizon d.start d.delta d.bound < height (history b a) = ended a in_arc.0 in
+    let now_ended : times.horizon d.start d.delta d.bound < height (history b a) = ended a w in
     let ends : due.ref + d.delta ≤ times.horizon d.start d.delta d.bound = due.ends in
     let passed : due.ref + d.delta < height (history b a) = omega arith in
     let done =

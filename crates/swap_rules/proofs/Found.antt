@@ -5,8 +5,8 @@ use Rattle.std.specs.List.{list_any, list_all, range_with_len, flat_map, cons_op
 use Rattle.std.proofs.lemmas.Bool.{false≢true}
 use Rattle.std.specs.Prelude.{filter_map}
 use Rattle.swap_base.specs.Lists.{IsElement, moments}
-use Rattle.swap_base.proofs.Lists.{list_any-in, list_all-from, and_both, in_append, at_moment, all_from_list_all, in_range, in_flat_map}
-use Rattle.swap_digraph.specs.Deal.{party}
+use Rattle.swap_base.proofs.Lists.{list_any-in, list_all-from, and_both, in_append, or-right, at_moment, all_from_list_all, in_range, in_flat_map}
+use Rattle.swap_digraph.specs.Deal.{party, counterparty}
 use Rattle.swap_digraph.specs.declared.deal.Deal.{Deal}
 use Rattle.swap_digraph.specs.Graph.{arcs}
 use Rattle.ledger_core.specs.History.{height}
@@ -15,18 +15,18 @@ use Rattle.swap_rules.specs.Findings.{findings, or_zero, failing, broken, deal_r
 use Rattle.swap_rules.specs.Conduct.{IsConducted, keeps_entry}
 use Rattle.swap_rules.specs.Late.{reference_height, is_late}
 use Rattle.swap_rules.specs.Forged.{is_forged}
-use Rattle.swap_rules.specs.Outcome.{IsEnded}
+use Rattle.swap_rules.specs.Outcome.{IsEnded, EnteringHaveEnded, LeavingHaveEnded}
 use Rattle.swap_rules.specs.declared.finding.Rule.{Rule}
 use Rattle.swap_rules.specs.declared.finding.Rule.TheVariants.{Publish as ToPublish, Unlock as ToUnlock, Claim as ToClaim, Refund as ToRefund}
 use Rattle.swap_rules.specs.declared.finding.Finding.{Finding}
 use Rattle.swap_rules.specs.declared.finding.Finding.TheVariants.{Broke, Late, Forged, Unfinished}
 use Rattle.swap_rules.specs.Laws.{UnnamedIsSafe, is_against_party, names_party, IsUnforged, WithoutFindingsAllIsTransferred, Conforms, NothingFound}
-use Rattle.swap_rules.proofs.Refunds.{every_book_is_safe, safe_by, unlocks_all, claims_all, has_refunds, on_time_asks}
+use Rattle.swap_rules.proofs.Refunds.{every_book_is_safe, safe_by, unlocks_all, claims_all, has_refunds, late_asks, on_time_asks}
 use Rattle.swap_rules.proofs.Entering.{UnlocksInTime}
 use Rattle.swap_rules.proofs.Accepted.{times_law}
-use Rattle.swap_rules.specs.Walking.{endangers, strands, LatePublishIsSafe, LateUnlockHasRefunds}
+use Rattle.swap_rules.specs.Walking.{detains, endangers, strands, LateAskerHasRefunds, LatePublishIsSafe, LateUnlockHasRefunds}
 use Rattle.swap_rules.proofs.Transfer.{all_is_transferred}
-use Rattle.swap_rules.proofs.Words.{append_empty, flat_map_none, past_end, publish_rule, unlock_rule, claim_rule, refund_rule, leaves}
+use Rattle.swap_rules.proofs.Words.{append_empty, flat_map_none, past_end, publish_rule, unlock_rule, claim_rule, refund_rule, or-left, enters, leaves}
 use Rattle.time_bounds.specs.Times as times
 
 failing_head : {A : Type 0} (say : A → Finding) (test : A → Bool) (x : A) (xs : List A) (t : Bool)
@@ -134,7 +134,7 @@ module _ (d : Deal) (conforming : ℕ → Bool) (b : Histories) (v : ℕ) (legal
 
   -- What no finding of a kind says.
   module _ (t : Finding → Bool) (none : list_any t (findings d conforming b) ≡ false) where
-    conducted_by : ((a e : ℕ) → t (Broke v a e) ≡ true) → IsConducted d b v
+    pub conducted_by : ((a e : ℕ) → t (Broke v a e) ≡ true) → IsConducted d b v
     conducted_by broke a = elim (within a (length d.graph.arcs)) [
       | inl l ↦ list_all-from (keeps_entry d b v a) (moments (history b a)) (λ m i.
           split_test (keeps_entry d b v a m) (λ e. clean t (Broke v a (length m.past)) none
@@ -162,10 +162,10 @@ module _ (d : Deal) (conforming : ℕ → Bool) (b : Histories) (v : ℕ) (legal
             (cond t (Late v rule a (or_zero (reference_height d b v rule a) + d.delta) ∷ []) [])) (sym e) (inl refl))))))))
             (said (or_zero (reference_height d b v rule a) + d.delta)))
 
-    ended_by : ((a n : ℕ) → t (Unfinished a n) ≡ true) → IsEnded d b
-    ended_by said a l =
+    ended_by : (a : ℕ) → ((n : ℕ) → t (Unfinished a n) ≡ true) → a < length d.graph.arcs → times.horizon d.start d.delta d.bound < height (history b a)
+    ended_by a said l =
         ltb-true (times.horizon d.start d.delta d.bound) (height (history b a))
-        (split_test _ (λ e. false≢true (sym none ∙ list_any-in t (findings d conforming b) (Unfinished a (height (history b a))) (said a (height (history b a)))
+        (split_test _ (λ e. false≢true (sym none ∙ list_any-in t (findings d conforming b) (Unfinished a (height (history b a))) (said (height (history b a)))
         (in_append (flat_map (λ v. if conforming v then party_findings d b v else []) (range_with_len 0 d.graph.n)) (unfinished d b)
         (Unfinished a (height (history b a))) (inr
         (in_flat_map (λ a. if nat_lt (times.horizon d.start d.delta d.bound) (height (history b a)) then [] else Unfinished a (height (history b a))
@@ -189,9 +189,13 @@ module _ (d : Deal) (conforming : ℕ → Bool) (b : Histories) (v : ℕ) (legal
 pub unnamed_is_safe : UnnamedIsSafe
 unnamed_is_safe d conforming b v k legal below c none =
     let s =
-    every_book_is_safe d b v k legal (ended_by d conforming b v legal below c (is_against_party v) none (λ a n. refl))
-    (conducted_by d conforming b v legal below c (is_against_party v) none (λ a e. eq-eqb v v refl))
-    (λ rule a r i. not_late_by d conforming b v legal below c (is_against_party v) none rule a (λ due. eq-eqb v v refl) r i) in
+    every_book_is_safe d b v k legal
+    (λ a w. let e = enters d v a w in
+    ended_by d conforming b v legal below c (is_against_party d v) none a (λ n. or-right (party d a == v) (counterparty d a == v) (eq-eqb (counterparty d a) v e.1)) e.0)
+    (λ a w. let e = leaves d v a w in
+    ended_by d conforming b v legal below c (is_against_party d v) none a (λ n. or-left (party d a == v) (counterparty d a == v) (eq-eqb (party d a) v e.1)) e.0)
+    (conducted_by d conforming b v legal below c (is_against_party d v) none (λ a e. eq-eqb v v refl))
+    (λ rule a r i. not_late_by d conforming b v legal below c (is_against_party d v) none rule a (λ due. eq-eqb v v refl) r i) in
     (λ unforged. s.safe (is_unforged d conforming b v legal below c unforged), s.refunds)
 
 -- A party whose publishes and refunds alone were late isn't underwater.
@@ -200,34 +204,52 @@ late_publish_is_safe d conforming b v k legal below c none unnamed =
     safe_by d b v k legal conducted (λ stake. unlocks_all d b v k legal ended conducted unlocks)
     (λ stake. claims_all d b v legal ended conducted (times_law d k) claimed) (is_unforged d conforming b v legal below c unnamed)
   where
-    ended : IsEnded d b
-    ended = ended_by d conforming b v legal below c (endangers v) none (λ a n. refl)
+    ended : EnteringHaveEnded d b v
+    ended a w =
+        let e = enters d v a w in ended_by d conforming b v legal below c (endangers d v) none a (λ n. eq-eqb (counterparty d a) v e.1) e.0
 
     conducted : IsConducted d b v
-    conducted = conducted_by d conforming b v legal below c (endangers v) none (λ a e. eq-eqb v v refl)
+    conducted = conducted_by d conforming b v legal below c (endangers d v) none (λ a e. eq-eqb v v refl)
 
     unlocks : UnlocksInTime d b v
-    unlocks i a l j = not_late_by d conforming b v legal below c (endangers v) none (ToUnlock i) a (λ due. eq-eqb v v refl) (unlock_rule d i l) j
+    unlocks i a l j = not_late_by d conforming b v legal below c (endangers d v) none (ToUnlock i) a (λ due. eq-eqb v v refl) (unlock_rule d i l) j
 
     claimed : (a : ℕ) → IsElement a (arcs d.graph) → is_late d b v ToClaim a ≡ false
-    claimed a j = not_late_by d conforming b v legal below c (endangers v) none ToClaim a (λ due. eq-eqb v v refl) (claim_rule d) j
+    claimed a j = not_late_by d conforming b v legal below c (endangers d v) none ToClaim a (λ due. eq-eqb v v refl) (claim_rule d) j
 
 -- A party whose unlocks and claims alone were late has its refunds.
 pub late_unlock_has_refunds : LateUnlockHasRefunds
 late_unlock_has_refunds d conforming b v k legal below c none =
-    has_refunds d b v legal conducted (times_law d k) (on_time_asks d b v legal ended conducted published asked (times_law d k))
+    has_refunds d b v legal conducted (times_law d k) (on_time_asks d b v legal conducted published asked (times_law d k) ended)
   where
-    ended : IsEnded d b
-    ended = ended_by d conforming b v legal below c (strands v) none (λ a n. refl)
+    ended : LeavingHaveEnded d b v
+    ended a w =
+        let e = leaves d v a w in ended_by d conforming b v legal below c (strands d v) none a (λ n. eq-eqb (party d a) v e.1) e.0
 
     conducted : IsConducted d b v
-    conducted = conducted_by d conforming b v legal below c (strands v) none (λ a e. eq-eqb v v refl)
+    conducted = conducted_by d conforming b v legal below c (strands d v) none (λ a e. eq-eqb v v refl)
 
     published : (a : ℕ) → IsElement a (arcs d.graph) → is_late d b v ToPublish a ≡ false
-    published a j = not_late_by d conforming b v legal below c (strands v) none ToPublish a (λ due. eq-eqb v v refl) (publish_rule d) j
+    published a j = not_late_by d conforming b v legal below c (strands d v) none ToPublish a (λ due. eq-eqb v v refl) (publish_rule d) j
 
     asked : (a : ℕ) → IsElement a (arcs d.graph) → is_late d b v ToRefund a ≡ false
-    asked a j = not_late_by d conforming b v legal below c (strands v) none ToRefund a (λ due. eq-eqb v v refl) (refund_rule d) j
+    asked a j = not_late_by d conforming b v legal below c (strands d v) none ToRefund a (λ due. eq-eqb v v refl) (refund_rule d) j
+
+-- A party whose refunds alone weren't late has its refunds, if it asks back only after its
+-- publishes.
+pub late_asker_has_refunds : LateAskerHasRefunds
+late_asker_has_refunds d conforming b v k legal below c asks none =
+    has_refunds d b v legal conducted (times_law d k) (late_asks d b v legal conducted asked (times_law d k) ended asks)
+  where
+    ended : LeavingHaveEnded d b v
+    ended a w =
+        let e = leaves d v a w in ended_by d conforming b v legal below c (detains d v) none a (λ n. eq-eqb (party d a) v e.1) e.0
+
+    conducted : IsConducted d b v
+    conducted = conducted_by d conforming b v legal below c (detains d v) none (λ a e. eq-eqb v v refl)
+
+    asked : (a : ℕ) → IsElement a (arcs d.graph) → is_late d b v ToRefund a ≡ false
+    asked a j = not_late_by d conforming b v legal below c (detains d v) none ToRefund a (λ due. eq-eqb v v refl) (refund_rule d) j
 
 pub without_findings_all_is_transferred : WithoutFindingsAllIsTransferred
 without_findings_all_is_transferred d conforming b k legal all none =

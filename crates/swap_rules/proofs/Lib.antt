@@ -30,3 +30,6 @@ pub mod Dealing
 pub mod Rest
 pub mod Walking
 pub mod Useful
+pub mod EarlyUseful
+pub mod Counted
+pub mod Pressing

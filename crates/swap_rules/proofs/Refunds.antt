@@ -30,10 +30,10 @@ use Rattle.swap_rules.specs.declared.outcome.Outcome.TheVariants.{Underwater}
 use Rattle.swap_rules.specs.Party.{is_ready, ready_height, is_triggered, leads_one, pick_call, least_expiry, has_expired}
 use Rattle.swap_rules.specs.Conduct.{is_publish, keeps, IsConducted}
 use Rattle.swap_rules.specs.Late.{trigger_height, when, reference_height, counts, is_late}
-use Rattle.swap_rules.specs.Outcome.{is_claim, outcome, IsEnded}
+use Rattle.swap_rules.specs.Outcome.{is_claim, outcome, EnteringHaveEnded, LeavingHaveEnded}
 use Rattle.swap_rules.specs.Accepted.{IsAccepted}
 use Rattle.swap_rules.specs.Laws.{IsOnTime, IsUnforged, HasRefunds, EveryBookIsSafe}
-use Rattle.swap_rules.specs.Walking.{HasLost, UnlocksAll, ClaimsAll, AsksBack, AsksAllBack, WatchfulIsSafe, OnTimeIsWatchful}
+use Rattle.swap_rules.specs.Walking.{HasLost, UnlocksAll, ClaimsAll, AsksAllBack, AsksAfterPublish, WatchfulIsSafe, OnTimeIsWatchful}
 use Rattle.swap_rules.specs.Due.{is_claiming}
 use Rattle.swap_rules.proofs.Times.{TimeLaw, OfTimelocks, OfHashkeys, TimesLaw}
 use Rattle.swap_rules.proofs.Openings.{first_expiry, refund_expiry-low, expired-least}
@@ -108,7 +108,7 @@ module _ (d : Deal) (a : ℕ) where
 
 -- A refund of an untriggered arc above the expiry of a lock that stays closed leaves the arc
 -- settled.
-refund_settles : (d : Deal) (a : ℕ) (h past : List Entry) (e : Entry) (p : Publication) → IsLegal d a h → (m : IsMoment h past e)
+pub refund_settles : (d : Deal) (a : ℕ) (h past : List Entry) (e : Entry) (p : Publication) → IsLegal d a h → (m : IsMoment h past e)
     → (act : Act d a past e Refund)
     → act.by ≡ party d a → published past ≡ Some p → triggered d h ≡ false → refund_expiry d a p.terms (is_open h) < height past → is_some (settled h) ≡ true
 unfolding rows
@@ -141,7 +141,7 @@ refund_settles d a h past e p l m act by pub_past shut expired = go (settled pas
         (not-full d a past e Refund act, (ap is_none pub_past, (ap is_some q, (ap not (eq-eqb act.by (party d a) by), (closed, (late, tt))))))) in
         settled-now h past e Refunded m (ap settling took)
 
-counted_refund : (d : Deal) (b : Histories) (v a at : ℕ) (c : Call) → counts d b v ToRefund a at (Some c) ≡ true
+pub counted_refund : (d : Deal) (b : Histories) (v a at : ℕ) (c : Call) → counts d b v ToRefund a at (Some c) ≡ true
     → (c ≡ Refund) × (least_expiry d a (history b a) < at)
 unfolding counts
 counted_refund d b v a at Refund k = (refl, ltb-true (least_expiry d a (history b a)) at k)
@@ -235,7 +235,7 @@ module _ (d : Deal) (b : Histories) (v : ℕ) (legal : IsLegalBook d b) (conduct
 -- A party that is nowhere late is watchful.
 
 -- an enabled unlock that isn't late is called while its hashkey is accepted, in either mode
-pub unlocks_all : (d : Deal) (b : Histories) (v : ℕ) → IsAccepted d → IsLegalBook d b → IsEnded d b → IsConducted d b v → UnlocksInTime d b v → UnlocksAll d b v
+pub unlocks_all : (d : Deal) (b : Histories) (v : ℕ) → IsAccepted d → IsLegalBook d b → EnteringHaveEnded d b v → IsConducted d b v → UnlocksInTime d b v → UnlocksAll d b v
 unlocks_all d b v k legal ended conducted unlocks = go (time_law d k)
   where
     go : TimeLaw d → UnlocksAll d b v
@@ -243,11 +243,11 @@ unlocks_all d b v k legal ended conducted unlocks = go (time_law d k)
     go (OfHashkeys law) = hashkeys_unlock d b v law legal ended conducted unlocks
 
 -- where no claim is late each triggered arc that enters v was claimed
-pub claims_all : (d : Deal) (b : Histories) (v : ℕ) → IsLegalBook d b → IsEnded d b → IsConducted d b v → TimesLaw d
+pub claims_all : (d : Deal) (b : Histories) (v : ℕ) → IsLegalBook d b → EnteringHaveEnded d b v → IsConducted d b v → TimesLaw d
     → ((a : ℕ) → IsElement a (arcs d.graph) → is_late d b v ToClaim a ≡ false) → ClaimsAll d b v
 claims_all d b v legal ended conducted law in_time a w right t =
     let in_arc = enters d v a w in
-    let now_ended : times.horizon d.start d.delta d.bound < height (history b a) = ended a in_arc.0 in
+    let now_ended : times.horizon d.start d.delta d.bound < height (history b a) = ended a w in
     let ends = trigger_ends d b v legal conducted law a w right in
     let passed : trigger_height d (history b a) + d.delta < height (history b a) = omega arith in
     let done =
@@ -257,11 +257,65 @@ claims_all d b v legal ended conducted law in_time a w right t =
     (ap is_claiming (done.called ∙ ap Some (counted_claim d b v a done.now.height done.call done.counted)))
     (subst (IsElement done.now) (sym done.stands.1) (in_from_moment done.past done.now done.stands.0))
 
-pub on_time_claims : (d : Deal) (b : Histories) (v : ℕ) → IsLegalBook d b → IsEnded d b → IsConducted d b v → TimesLaw d → IsOnTime d b v → ClaimsAll d b v
+pub on_time_claims : (d : Deal) (b : Histories) (v : ℕ) → IsLegalBook d b → EnteringHaveEnded d b v → IsConducted d b v → TimesLaw d → IsOnTime d b v → ClaimsAll d b v
 on_time_claims d b v legal ended conducted law on_time =
     claims_all d b v legal ended conducted law (λ a i. on_time ToClaim a (claim_rule d) i)
 
-module _ (d : Deal) (b : Histories) (v : ℕ) (legal : IsLegalBook d b) (ended : IsEnded d b) (conducted : IsConducted d b v)
+-- A refund call that isn't late: above the expiry of a lock that stays closed, and within delta.
+pub record AskedInTime (d : Deal) (b : Histories) (v a : ℕ) : Type 0 where
+  pub past : List Entry
+  pub now : Entry
+  pub stands : IsMoment (history b a) past now
+  pub called : pick_call v now ≡ Some Refund
+  pub above : least_expiry d a (history b a) < now.height
+  pub in_time : now.height ≤ least_expiry d a (history b a) + d.delta
+
+-- the least expiry lies after the height by which v publishes, and a refund within delta of it
+-- before the horizon
+pub expiry_within : (d : Deal) (b : Histories) (v a : ℕ) → TimesLaw d → IsElement a (leaving d.graph v) → is_triggered d b a ≡ false
+    → (times.opening_deadline d.start d.delta d.bound + d.delta ≤ least_expiry d a (history b a))
+    × (least_expiry d a (history b a) + d.delta ≤ times.horizon d.start d.delta d.bound)
+expiry_within d b v a law w shut =
+    let out = leaves d v a w in
+    let first = first_expiry d a (stated_terms d a) (is_open (history b a)) shut in
+    let t1 = law.opens a first.lock out.0 in
+    let t2 = law.ends a first.lock out.0 in
+    let t3 = first.height in
+    (omega arith, omega arith)
+
+module _ (d : Deal) (b : Histories) (v : ℕ) (legal : IsLegalBook d b) (conducted : IsConducted d b v)
+    (refunds : (a : ℕ) → IsElement a (arcs d.graph) → is_late d b v ToRefund a ≡ false) (law : TimesLaw d) where
+  -- an arc that leaves v, was published and wasn't triggered, is asked back in time
+  pub asked_in_time : (a : ℕ) → IsElement a (leaving d.graph v) → is_some (published (history b a)) ≡ true → is_triggered d b a ≡ false
+      → least_expiry d a (history b a) + d.delta < height (history b a) → AskedInTime d b v a
+  unfolding reference_height
+  asked_in_time a w shown shut passed =
+      let out = leaves d v a w in
+      let on : (is_listed a (leaving d.graph v) && is_some (published (history b a)) && not (is_triggered d b a)) ≡ true =
+      and_both (is_listed a (leaving d.graph v) && is_some (published (history b a))) _
+      (and_both (is_listed a (leaving d.graph v)) _ (in-is_listed a (leaving d.graph v) w) shown) (ap not shut) in
+      let y =
+      done_in_time d b v conducted legal ToRefund a (refunds a (in_range a (length d.graph.arcs) out.0))
+      (least_expiry d a (history b a)) (ap (λ x. when x (least_expiry d a (history b a))) on) passed in
+      let c = counted_refund d b v a y.now.height y.call y.counted in
+      record {
+        past = y.past;
+        now = y.now;
+        stands = y.stands;
+        called = y.called ∙ ap Some c.0;
+        above = c.1;
+        in_time = y.in_time;
+      }
+
+  -- so v asks all back, if it asks only after its publishes
+  pub late_asks : LeavingHaveEnded d b v → AsksAfterPublish d b v → AsksAllBack d b v
+  late_asks ended asks a w shown shut =
+      let now_ended : times.horizon d.start d.delta d.bound < height (history b a) = ended a w in
+      let t = (expiry_within d b v a law w shut).1 in
+      let y = asked_in_time a w shown shut (omega arith) in
+      record { past = y.past; now = y.now; stands = y.stands; called = y.called; after = asks a y.past y.now w y.stands y.called }
+
+module _ (d : Deal) (b : Histories) (v : ℕ) (legal : IsLegalBook d b) (conducted : IsConducted d b v)
     (publishes : (a : ℕ) → IsElement a (arcs d.graph) → is_late d b v ToPublish a ≡ false)
     (refunds : (a : ℕ) → IsElement a (arcs d.graph) → is_late d b v ToRefund a ≡ false) (law : TimesLaw d) where
   pub ready_low : is_ready d b v ≡ true → ready_height d b v ≤ times.opening_deadline d.start d.delta d.bound
@@ -289,9 +343,10 @@ module _ (d : Deal) (b : Histories) (v : ℕ) (legal : IsLegalBook d b) (ended :
 
   -- what v published was published before any lock expires
   published_early : (a : ℕ) (p : Publication) → IsElement a (leaving d.graph v) → published (history b a) ≡ Some p
+      → times.opening_deadline d.start d.delta d.bound + d.delta < height (history b a)
       → p.height ≤ times.opening_deadline d.start d.delta d.bound + d.delta
   unfolding keeps
-  published_early a p w e =
+  published_early a p w e high =
       let out = leaves d v a w in
       let l = legal_at d b v conducted legal a out.0 in
       let own = own_publish d b v conducted legal a p w e in
@@ -302,9 +357,6 @@ module _ (d : Deal) (b : Histories) (v : ℕ) (legal : IsLegalBook d b) (ended :
       and_three (same_terms p.terms (stated_terms d a)) (count_by (λ e. is_publish (pick_call v e)) (history b a) == 1) (leads_one d v || is_ready d b v)
       (kept d b v conducted a done.past done.now (Publish p.terms) done.stands called) in
       let r = publish_ref a w own.may in
-      let now_ended : times.horizon d.start d.delta d.bound < height (history b a) = ended a out.0 in
-      let t1 = law.opens a 0 out.0 in
-      let t2 = law.ends a 0 out.0 in
       let t3 : r.0 ≤ times.opening_deadline d.start d.delta d.bound = r.2 in
       let passed : r.0 + d.delta < height (history b a) = omega arith in
       let x = done_in_time d b v conducted legal ToPublish a (publishes a (in_range a (length d.graph.arcs) out.0)) r.0 r.1 passed in
@@ -318,56 +370,50 @@ module _ (d : Deal) (b : Histories) (v : ℕ) (legal : IsLegalBook d b) (ended :
       let t7 : x.now.height ≤ r.0 + d.delta = x.in_time in
       omega arith
 
-  -- each arc that leaves v and wasn't triggered was asked back after its publish, which came before
-  -- any lock expires
-  pub on_time_asks : AsksAllBack d b v
-  unfolding reference_height
-  on_time_asks a w shown shut =
+  -- the refund call comes after the publish, which came before any lock expires
+  pub asked_after : (a : ℕ) → IsElement a (leaving d.graph v) → is_some (published (history b a)) ≡ true → is_triggered d b a ≡ false
+      → least_expiry d a (history b a) + d.delta < height (history b a) → (y : AskedInTime d b v a) × (is_some (published y.past) ≡ true)
+  asked_after a w shown shut passed =
       let p = is_some-of (published (history b a)) shown in
       let out = leaves d v a w in
       let l = legal_at d b v conducted legal a out.0 in
-      let now_ended : times.horizon d.start d.delta d.bound < height (history b a) = ended a out.0 in
-      let first = first_expiry d a (stated_terms d a) (is_open (history b a)) shut in
-      let t1 = law.opens a first.lock out.0 in
-      let t2 = law.ends a first.lock out.0 in
-      let t3 = first.height in
-      let passed : least_expiry d a (history b a) + d.delta < height (history b a) = omega arith in
-      let on : (is_listed a (leaving d.graph v) && is_some (published (history b a)) && not (is_triggered d b a)) ≡ true =
-      and_both (is_listed a (leaving d.graph v) && is_some (published (history b a))) _
-      (and_both (is_listed a (leaving d.graph v)) _ (in-is_listed a (leaving d.graph v) w) shown) (ap not shut) in
-      let y =
-      done_in_time d b v conducted legal ToRefund a (refunds a (in_range a (length d.graph.arcs) out.0))
-      (least_expiry d a (history b a)) (ap (λ x. when x (least_expiry d a (history b a))) on) passed in
-      let c = counted_refund d b v a y.now.height y.call y.counted in
-      let called : pick_call v y.now ≡ Some Refund = y.called ∙ ap Some c.0 in
-      let act = act_of d a (history b a) y.past y.now Refund v l y.stands called in
+      let y = asked_in_time d b v legal conducted refunds law a w shown shut passed in
+      let act = act_of d a (history b a) y.past y.now Refund v l y.stands y.called in
+      let t1 = (expiry_within d b v a law w shut).0 in
       let done = published_done d a (history b a) p.0 l p.1 in
-      let early = published_early a p.0 w p.1 in
+      let early = published_early a p.0 w p.1 (omega arith) in
       let t4 : p.0.height ≡ height done.past = done.at in
       let t5 : y.now.height ≡ height y.past = act.0.at in
-      let t6 : least_expiry d a (history b a) < y.now.height = c.1 in
+      let t6 : least_expiry d a (history b a) < y.now.height = y.above in
       let apart : height done.past < height y.past = omega arith in
-      go p.0 done y.past y.now y.stands called apart (moments_in_order (history b a) done.past y.past done.now y.now done.stands y.stands)
+      (y, go p.0 done y.past y.now apart (moments_in_order (history b a) done.past y.past done.now y.now done.stands y.stands))
     where
-      go : {t : ℕ} (p : Publication) (done : Done d a (history b a) (Publish p.terms) t) (past : List Entry) (now : Entry) → IsMoment (history b a) past now
-          → pick_call v now ≡ Some Refund → height done.past < height past → Order done.past done.now past now → AsksBack b v a
-      go p done past now stands called apart (Same q n) = let z : height done.past ≡ height past = ap height q in absurd (omega arith)
-      go p done past now stands called apart (Later m) = let z = height-past done.past past now m in absurd (omega arith)
-      go p done past now stands called apart (Earlier m) =
-          let shown =
+      go : {t : ℕ} (p : Publication) (done : Done d a (history b a) (Publish p.terms) t) (past : List Entry) (now : Entry)
+          → height done.past < height past → Order done.past done.now past now → is_some (published past) ≡ true
+      go p done past now apart (Same q n) = let z : height done.past ≡ height past = ap height q in absurd (omega arith)
+      go p done past now apart (Later m) = let z = height-past done.past past now m in absurd (omega arith)
+      go p done past now apart (Earlier m) =
           first_given_answer-now (λ e. publication e.height (accepted e)) past done.past done.now (record {
             height = done.now.height;
             terms =
                 p.terms;
-          }) m (ap (publication done.now.height) done.took) in
-          record { past = past; now = now; stands = stands; called = called; after = shown }
+          }) m (ap (publication done.now.height) done.took)
+
+  -- each arc that leaves v and wasn't triggered was asked back after its publish
+  pub on_time_asks : LeavingHaveEnded d b v → AsksAllBack d b v
+  on_time_asks ended a w shown shut =
+      let now_ended : times.horizon d.start d.delta d.bound < height (history b a) = ended a w in
+      let t = (expiry_within d b v a law w shut).1 in
+      let y = asked_after a w shown shut (omega arith) in
+      record { past = y.0.past; now = y.0.now; stands = y.0.stands; called = y.0.called; after = y.1 }
 
 pub on_time_is_watchful : OnTimeIsWatchful
-on_time_is_watchful d b v k legal ended conducted on_time = record {
-  unlocks = λ stake. unlocks_all d b v k legal ended conducted (unlocks_in_time d b v on_time);
-  claims = λ stake. on_time_claims d b v legal ended conducted (times_law d k) on_time;
+on_time_is_watchful d b v k legal entering_ended leaving_ended conducted on_time = record {
+  unlocks = λ stake. unlocks_all d b v k legal entering_ended conducted (unlocks_in_time d b v on_time);
+  claims = λ stake. on_time_claims d b v legal entering_ended conducted (times_law d k) on_time;
   refunds =
-      on_time_asks d b v legal ended conducted (λ a i. on_time ToPublish a (publish_rule d) i) (λ a i. on_time ToRefund a (refund_rule d) i) (times_law d k);
+      on_time_asks d b v legal conducted (λ a i. on_time ToPublish a (publish_rule d) i) (λ a i. on_time ToRefund a (refund_rule d) i) (times_law d k)
+      leaving_ended;
 }
 
 pub safe_by : (d : Deal) (b : Histories) (v : ℕ) → IsAccepted d → IsLegalBook d b → IsConducted d b v → (HasLost d b v → UnlocksAll d b v)
@@ -385,5 +431,5 @@ watchful_is_safe d b v k legal conducted watchful = record {
 }
 
 pub every_book_is_safe : EveryBookIsSafe
-every_book_is_safe d b v k legal ended conducted on_time =
-    watchful_is_safe d b v k legal conducted (on_time_is_watchful d b v k legal ended conducted on_time)
+every_book_is_safe d b v k legal entering_ended leaving_ended conducted on_time =
+    watchful_is_safe d b v k legal conducted (on_time_is_watchful d b v k legal entering_ended leaving_ended conducted on_time)

@@ -2,7 +2,7 @@
 use Rattle.std.proofs.Common.{le-leb, count_by, ◌≡◌, ◌⊎◌, ℕ, suc, zero, ◌+◌, ◌<◌, ◌≤◌, ◌==◌, nat_lt, nat_le, Bool, true, false, cond, not, ◌-◌}
 use Rattle.std.proofs.Common.{if◌then◌else◌, max, ◌&&◌, ◌||◌, List, [], ◌∷◌, ◌++◌, length, Option, Some, None, is_some, is_none, refl, sym, ap, ◌∙◌}
 use Rattle.std.proofs.Common.{subst, inl, inr, arith, eqb-true, ltb-true, ltb-false, lt-ltb, le-ltb, leb-true, mul-le-mul_right, ◌*◌, map}
-use Rattle.std.specs.List.{list_any, list_all, flat_map}
+use Rattle.std.specs.List.{list_any, flat_map}
 use Rattle.std.proofs.lemmas.Bool.{false≢true}
 use Rattle.std.proofs.lemmas.Option.{same_Some}
 use Rattle.swap_base.specs.Lists.{or_else, IsElement, IsMoment, greatest}
@@ -38,7 +38,6 @@ use Rattle.swap_rules.specs.Accepted.{IsAccepted, IsTimed}
 use Rattle.swap_rules.specs.Due.{Wallet, unlocks_lock, is_claiming, is_refunding, has_called, is_due_publish, seen_key, extended, due_key, presented}
 use Rattle.swap_rules.specs.Due.{may_unlock, due_arc_unlock, is_due_claim, is_due_refund, when_due, due_publishes, due_unlocks, due_claims, due_refunds}
 use Rattle.swap_rules.specs.Due.{due}
-use Rattle.swap_rules.specs.Walking.{is_withheld, pressing_unlocks, pressing}
 use Rattle.swap_digraph.proofs.Paths.{is_listed-true}
 use Rattle.swap_rules.proofs.Words.{past_end, key_without_parts, and_three, and_five, enters, leaves, pick_call-act, act_of, key_parts}
 use Rattle.swap_rules.proofs.Words.{append_empty, flat_map_none, or-left, same_key-refl}
@@ -100,21 +99,6 @@ pub refund_none : (d : Deal) (v : ℕ) (k : Histories) → due_refunds d v k ≡
 refund_none d v k r a i =
     when_due_none (is_due_refund d v k a) a Refund (flat_map_none (λ a. when_due (is_due_refund d v k a) a Refund) (leaving d.graph v) a r i)
 
--- where nothing presses, nothing else is due
-pub nothing_presses : (d : Deal) (v : ℕ) (w : Wallet) (signed : ℕ → Option Hashkey) (k : Histories) → pressing d v w signed k ≡ []
-    → NothingElseDue d v signed w k (is_withheld d v k)
-unfolding pressing
-nothing_presses d v w signed k e =
-    let e1 = append_empty (flat_map (pressing_unlocks d v w signed k) (locks d) ++ due_claims d v k) (due_refunds d v k) e in
-    let e2 = append_empty (flat_map (pressing_unlocks d v w signed k) (locks d)) (due_claims d v k) e1.0 in
-    record {
-      unlock = λ i a l j t free. unlock_none d v w signed k i a
-          (ap (λ x. cond x [] (flat_map (due_arc_unlock d v w (signed i) k i) (entering d.graph v))) (sym free)
-          ∙ flat_map_none (pressing_unlocks d v w signed k) (locks d) i e2.0 (in_range i (length d.leaders) l)) j t;
-      claim = claim_none d v k e2.1;
-      refund = refund_none d v k e1.1;
-    }
-
 pub nothing_due : (d : Deal) (v : ℕ) (w : Wallet) (signed : ℕ → Option Hashkey) (k : Histories) → due d v w signed k ≡ [] → NothingDue d v signed w k
 unfolding due
 nothing_due d v w signed k e =
@@ -134,23 +118,6 @@ nothing_due d v w signed k e =
 and_false : (z : Bool) → (z && false) ≡ false
 and_false true = refl
 and_false false = refl
-
--- no lock is withheld where no known ledger is more than delta above a height by which contracts
--- open
-pub not_withheld : (d : Deal) (v : ℕ) (k : Histories) (i t : ℕ) → ((a : ℕ) → height (history k a) ≤ t + d.delta)
-    → (leads d v i ≡ true → t ≤ times.opening_deadline d.start d.delta d.bound) → is_withheld d v k i ≡ false
-not_withheld d v k i t low early = go (leads d v i) refl
-  where
-    go : (x : Bool) → leads d v i ≡ x → is_withheld d v k i ≡ false
-    go false e =
-        ap (λ x. x && is_none (first_key k v i)
-        && not (list_all (λ a. nat_le (height (history k a)) (times.opening_deadline d.start d.delta d.bound + d.delta)) (entering d.graph v))) e
-    go true e =
-        let h = early e in
-        ap (λ x. leads d v i && is_none (first_key k v i) && not x)
-        (list_all-from (λ a. nat_le (height (history k a)) (times.opening_deadline d.start d.delta d.bound + d.delta)) (entering d.graph v) (λ a j.
-        let l = low a in le-leb (height (history k a)) (times.opening_deadline d.start d.delta d.bound + d.delta) (omega arith)))
-        ∙ and_false (leads d v i && is_none (first_key k v i))
 
 -- Numbers.
 
@@ -232,6 +199,240 @@ opened_key d a h i t key o l done e q =
     go x y cx cy s (Earlier m) = absurd (false≢true (sym cy ∙ (ap (is_open y.past) s ∙ opened-now y.past x.past x.now key m x.took)))
     go x y cx cy s (Later m) = absurd (false≢true (sym cx ∙ (ap (is_open x.past) (sym s) ∙ opened-now x.past y.past y.now o.key m y.took)))
 
+legal_on : (d : Deal) (b : Histories) → IsLegalBook d b → (a : ℕ) → a < length d.graph.arcs → IsLegal d a (history b a)
+legal_on d b legal a l = legal.legal a (rw legal.one_each l)
+
+-- What a party sees that was told of every ledger next to it past a height.
+
+-- A party's knowledge of the book b, in which everything of b at a height of at most ref stands.
+pub record Seeing (d : Deal) (b : Histories) (v ref : ℕ) : Type 0 where
+  pub known : Histories
+  pub grows : Grows known b
+  pub low : (a : ℕ) → IsNear d v a → ref < height (history known a)
+
+module _ (d : Deal) (b : Histories) (v ref : ℕ) (k : IsAccepted d) (legal : IsLegalBook d b) (conducted : IsConducted d b v)
+    (x : Seeing d b v ref) where
+  near_below : (a : ℕ) → IsNear d v a → a < length d.graph.arcs
+  near_below a (inl i) = (leaves d v a i).0
+  near_below a (inr i) = (enters d v a i).0
+
+  -- what stands at a height of at most ref is known
+  pub in_known : (a : ℕ) (past : List Entry) (e : Entry) → IsNear d v a → IsMoment (history b a) past e → height past ≤ ref → IsMoment (history x.known a) past e
+  in_known a past e l m low = let h = x.low a l in in_front (history x.known a) (history b a) past e (x.grows a) m (omega arith)
+
+  pub published_known : (a : ℕ) (p : Publication) → IsNear d v a → published (history b a) ≡ Some p → p.height ≤ ref → published (history x.known a) ≡ Some p
+  published_known a p l e low =
+      let done = published_done d a (history b a) p (legal_on d b legal a (near_below a l)) e in
+      let at : p.height ≡ height done.past = done.at in
+      let m = in_known a done.past done.now l done.stands (omega arith) in
+      let s =
+      first_given_answer-now (λ e. publication e.height (accepted e)) (history x.known a) done.past done.now (record {
+        height = done.now.height;
+        terms =
+            p.terms;
+      }) m (ap (publication done.now.height) done.took) in
+      sym (same_published d x.known b a x.grows s) ∙ e
+
+  opened_known : (a i : ℕ) (o : Opening) → IsNear d v a → opened (history b a) i ≡ Some o → o.height ≤ ref → opened (history x.known a) i ≡ Some o
+  opened_known a i o l e low =
+      let u = opened_done d a (history b a) i o (legal_on d b legal a (near_below a l)) e in
+      let at : o.height ≡ height u.0.past = u.0.at in
+      let m = in_known a u.0.past u.0.now l u.0.stands (omega arith) in
+      let s : is_open (history x.known a) i ≡ true =
+      subst (λ j. is_open (history x.known a) j ≡ true) u.1 (opened-now (history x.known a) u.0.past u.0.now o.key m u.0.took) in
+      let q = is_some-of (opened (history x.known a) i) s in
+      q.1 ∙ (sym (opened-more (history x.known a) (history b a) i q.0 (x.grows a) q.1) ∙ e)
+
+  good_known : (a : ℕ) → IsNear d v a → is_good d b a ≡ true → publication_height (published (history b a)) ≤ ref → is_good d x.known a ≡ true
+  good_known a l g low =
+      let c = correct d b a (and_parts (is_correct d b a) _ g).0 in
+      let h : publication_height (published (history b a)) ≡ c.contract.height = ap publication_height c.published in
+      let same : published (history x.known a) ≡ published (history b a) = published_known a c.contract l c.published (omega arith) ∙ sym c.published in
+      ap (λ o. is_arc_correct d a o && nat_le (publication_height o) (times.opening_deadline d.start d.delta d.bound)) same ∙ g
+
+  pub ready_known : is_ready d b v ≡ true → ready_height d b v ≤ ref → is_ready d x.known v ≡ true
+  unfolding is_ready ready_height
+  ready_known r low = list_all-from (is_good d x.known) (entering d.graph v) (λ a i.
+      let h = greatest-in (λ a. publication_height (published (history b a))) (entering d.graph v) a i in
+      good_known a (inr i) (ready_good d b v a r i) (omega arith))
+
+  pub triggered_known : (a : ℕ) → IsNear d v a → is_triggered d b a ≡ true → trigger_height d (history b a) ≤ ref → triggered d (history x.known a) ≡ true
+  triggered_known a l t low = list_all-from (is_open (history x.known a)) (locks d) (λ i z.
+      let o = is_some-of (opened (history b a) i) (list_all-in (is_open (history b a)) (locks d) i t z) in
+      let h = greatest-in (λ i. height_of_opening (opened (history b a) i)) (locks d) i z in
+      let at : height_of_opening (opened (history b a) i) ≡ o.0.height = ap height_of_opening o.1 in
+      ap is_some (opened_known a i o.0 l o.1 (omega arith)))
+
+  -- an open lock shows the contract
+  pub open_published : (a i : ℕ) → a < length d.graph.arcs → is_open (history x.known a) i ≡ true → is_some (published (history x.known a)) ≡ true
+  open_published a i l e =
+      let o = is_some-of (opened (history x.known a) i) e in
+      let lk : IsLegal d a (history x.known a) =
+      all_moments_front (IsLegalMoment d a) (history x.known a) (x.grows a).0 (subst (IsLegal d a) (x.grows a).1 (legal_on d b legal a l)) in
+      let u = opened_done d a (history x.known a) i o.0 lk o.1 in
+      let of_u = of_unlock d a u.0.past u.0.act.by o.0.key u.0.clear in
+      ap is_some (published-past (history x.known a) u.0.past u.0.now of_u.contract u.0.stands of_u.published)
+
+  -- a leaving arc on which a known hashkey opened lock i, without v on its path
+  pub record Seen (i : ℕ) : Type 0 where
+    arc : ℕ
+    leaves : IsElement arc (leaving d.graph v)
+    opening : Opening
+    opened : opened (history b arc) i ≡ Some opening
+    without : is_listed v opening.key.path ≡ false
+    early : opening.height ≤ ref
+
+  pub seen_key_some : (i : ℕ) → Seen i → is_some (seen_key d v x.known i) ≡ true
+  unfolding seen_key
+  seen_key_some i s =
+      let o = opened_known s.arc i s.opening (inl s.leaves) s.opened s.early in
+      first_given_answer-in (λ a. key_without_party v (opened (history x.known a) i)) (leaving d.graph v) s.arc s.opening.key s.leaves
+      (ap (key_without_party v) o ∙ ap (λ z. cond z None (Some s.opening.key)) s.without)
+
+  opens_without_parts : (o : Option Opening) → opens_without_party v o ≡ true → (z : Opening) × (o ≡ Some z) × (is_listed v z.key.path ≡ false)
+  opens_without_parts None e = absurd (cc e)
+  opens_without_parts (Some z) e = (z, refl, not-true-of _ e)
+
+  -- the hashkey of v's first unlock call, with the rules that it keeps
+  first_rules : (i : ℕ) (key : Hashkey) → first_key b v i ≡ Some key → (key.lock ≡ i) × (has_origin d.mode d b v key ≡ true)
+  unfolding first_key keeps
+  first_rules i key e =
+      let f = first_at (λ e. unlock_hashkey i (pick_call v e)) (flat_map (λ h. h) b) key e in
+      let parts = key_parts i (pick_call v f.now) key f.gives in
+      let y = from_whole b f.now (subst (IsElement f.now) (sym f.stands.1) (in_from_moment f.past f.now f.stands.0)) in
+      let m = moment_from_in (history b y.0) f.now y.2 in
+      let q =
+      and_five (is_some (published m.0)) (is_ready d b v) (is_first_key (first_key b v key.lock) key) (is_valid d y.0 (lock_hashlock d key.lock) key)
+      _ (kept d b v conducted y.0 m.0 f.now (Unlock key) m.1 parts.0) in
+      (parts.1, q.4)
+
+  -- Hashkeys.
+
+  seen_extended : (i t : ℕ) (key : Hashkey) → key.lock ≡ i → (y : Extended d b v key t) → is_listed v y.inner.path ≡ false → t ≤ ref → Seen i
+  seen_extended i t key lock y apart low =
+      let out = leaves d v y.arc y.leaves in
+      let done = done_at d y.arc (history b y.arc) y.past y.now (Unlock y.inner) t (legal_on d b legal y.arc out.0) y.stands y.took y.height in
+      let long = longer key v y.inner key.path key.sigs key y.extends in
+      let lock_is : y.inner.lock ≡ i = long.1 ∙ lock in
+      let s : is_open (history b y.arc) i ≡ true =
+      subst (λ j. is_open (history b y.arc) j ≡ true) lock_is (opened-now (history b y.arc) y.past y.now y.inner y.stands y.took) in
+      let o = is_some-of (opened (history b y.arc) i) s in
+      let one = opened_key d y.arc (history b y.arc) i t y.inner o.0 (legal_on d b legal y.arc out.0) done lock_is o.1 in
+      let at : o.0.height ≡ t = one.1 in
+      record {
+        arc = y.arc;
+        leaves = y.leaves;
+        opening = o.0;
+        opened = o.1;
+        without = ap (λ z. is_listed v z.path) one.0 ∙ apart;
+        early = omega arith;
+      }
+
+  -- the hashkey that v extended
+  by_extended : (i : ℕ) (key : Hashkey) → key.lock ≡ i
+      → list_any (λ a. list_any (λ e. extends_without_party v key (accepted e)) (history b a)) (leaving d.graph v) ≡ true
+      → greatest_used d b v (is_used d b v i (Some key)) ≤ ref → Seen i
+  by_extended i key lock e low =
+      let y = in_any (λ a. list_any (λ e. extends_without_party v key (accepted e)) (history b a)) (leaving d.graph v) e in
+      let z = in_any (λ e. extends_without_party v key (accepted e)) (history b y.0) y.2 in
+      let m = moment_from_in (history b y.0) z.0 z.1 in
+      let p = extended_without v key (accepted z.0) z.2 in
+      let used : is_used d b v i (Some key) z.0 ≡ true = ap (extends v key) p.1 ∙ p.3 in
+      let h = used_in d b v (is_used d b v i (Some key)) y.0 z.0 y.1 z.1 used in
+      let extended : Extended d b v key z.0.height =
+      record { arc = y.0; leaves = y.1; past = m.0; now = z.0; stands = m.1; inner = p.0; took = p.1; height = refl; extends = p.3 } in
+      seen_extended i z.0.height key lock extended p.2 (omega arith)
+
+  -- the hashkey that v would extend
+  by_without : (i : ℕ) → list_any (λ c. opens_without_party v (opened (history b c) i)) (leaving d.graph v) ≡ true
+      → greatest_used d b v (is_used d b v i None) ≤ ref → Seen i
+  by_without i e low =
+      let y = in_any (λ c. opens_without_party v (opened (history b c) i)) (leaving d.graph v) e in
+      let o = opens_without_parts (opened (history b y.0) i) y.2 in
+      let s =
+      is_some-of (first_seen_key d b v i) (first_given_answer-in (λ a. key_without_party v (opened (history b a) i)) (leaving d.graph v) y.0 o.0.key y.1
+      (ap (key_without_party v) o.1 ∙ ap (λ z. cond z None (Some o.0.key)) o.2)) in
+      let f = first_at (λ a. key_without_party v (opened (history b a) i)) (leaving d.graph v) s.0 s.1 in
+      let w = subst (IsElement f.now) (sym f.stands.1) (in_from_moment f.past f.now f.stands.0) in
+      let p = key_without_parts v (opened (history b f.now) i) s.0 f.gives in
+      let u = opened_done d f.now (history b f.now) i p.0 (legal_on d b legal f.now (leaves d v f.now w).0) p.1 in
+      let carried : is_used d b v i None u.0.now ≡ true =
+      ap (λ o. is_carried o (accepted u.0.now)) s.1 ∙ (ap (is_carried (Some s.0)) u.0.took
+      ∙ (ap (λ x. same_key x p.0.key) (sym p.2) ∙ same_key-refl p.0.key)) in
+      let h =
+      used_in d b v (is_used d b v i None) f.now u.0.now w (subst (IsElement u.0.now) (sym u.0.stands.1) (in_from_moment u.0.past u.0.now u.0.stands.0))
+      carried in
+      let at : p.0.height ≡ height u.0.past = u.0.at in
+      let at2 : u.0.now.height ≡ height u.0.past = u.0.act.at in
+      record { arc = f.now; leaves = w; opening = p.0; opened = p.1; without = p.3; early = omega arith }
+
+  -- Timelocks.
+
+  seen_open : (c i : ℕ) → d.mode ≡ Timelocks → IsElement c (leaving d.graph v) → is_open (history b c) i ≡ true
+      → greatest (λ a. height_of_opening (opened (history b a) i)) (leaving d.graph v) ≤ ref → Seen i
+  seen_open c i mode z e low =
+      let o = is_some-of (opened (history b c) i) e in
+      let l = (leaves d v c z).0 in
+      let u = opened_done d c (history b c) i o.0 (legal_on d b legal c l) o.1 in
+      let of_u = of_unlock d c u.0.past u.0.act.by o.0.key u.0.clear in
+      let h = greatest-in (λ a. height_of_opening (opened (history b a) i)) (leaving d.graph v) c z in
+      let at : height_of_opening (opened (history b c) i) ≡ o.0.height = ap height_of_opening o.1 in
+      record { arc = c; leaves = z; opening = o.0; opened = o.1; without = ap (is_listed v) (no_path d c o.0.key mode of_u.path); early = omega arith }
+
+  open_revealed : (i : ℕ) (key : Hashkey) → i < length d.leaders → length d.leaders ≡ 1
+      → list_any (λ a. list_any (λ e. carries key.secret (accepted e)) (history b a)) (leaving d.graph v) ≡ true
+      → (c : ℕ) × IsElement c (leaving d.graph v) × (is_open (history b c) i ≡ true)
+  open_revealed i key below one e =
+      let y = in_any (λ a. list_any (λ e. carries key.secret (accepted e)) (history b a)) (leaving d.graph v) e in
+      let z = in_any (λ e. carries key.secret (accepted e)) (history b y.0) y.2 in
+      let r = revealed key.secret (accepted z.0) z.2 in
+      let m = moment_from_in (history b y.0) z.0 z.1 in
+      let act = (clear_at d y.0 (history b y.0) m.0 z.0 (Unlock r.0) (legal_on d b legal y.0 (leaves d v y.0 y.1).0) m.1 r.1).0 in
+      let low : r.0.lock < length d.leaders = lock-below d y.0 r.0 act.fits in
+      let same : r.0.lock ≡ i = omega arith in
+      (y.0, y.1, subst (λ j. is_open (history b y.0) j ≡ true) same (opened-now (history b y.0) m.0 z.0 r.0 m.1 r.1))
+
+  open_without : (i : ℕ) → list_any (λ c. opens_without_party v (opened (history b c) i)) (leaving d.graph v) ≡ true
+      → (c : ℕ) × IsElement c (leaving d.graph v) × (is_open (history b c) i ≡ true)
+  open_without i e =
+      let y = in_any (λ c. opens_without_party v (opened (history b c) i)) (leaving d.graph v) e in
+      (y.0, y.1, ap is_some (opens_without_parts (opened (history b y.0) i) y.2).1)
+
+  -- what an enabled unlock of a lock that v doesn't lead extends is known
+  pub seen : (i : ℕ) → i < length d.leaders → leads d v i ≡ false
+      → (is_some (first_key b v i) || list_any (λ c. opens_without_party v (opened (history b c) i)) (leaving d.graph v)) ≡ true
+      → unlock_base d.mode d b v i (first_key b v i) ≤ ref → Seen i
+  seen i below f enabled low = go d.mode refl (first_key b v i) refl
+    where
+      timed : d.mode ≡ Timelocks → length d.leaders ≡ 1
+      timed e = (subst (λ m. IsTimed m d) e k.timed).0
+
+      go : (m : Mode) → d.mode ≡ m → (o : Option Hashkey) → first_key b v i ≡ o → Seen i
+      go Hashkeys em (Some key) eo =
+          let r = first_rules i key eo in
+          let origin : list_any (λ a. list_any (λ e. extends_without_party v key (accepted e)) (history b a)) (leaving d.graph v) ≡ true =
+          ap (λ z. cond z (is_alone v key.path) (list_any (λ a. list_any (λ e. extends_without_party v key (accepted e)) (history b a)) (leaving d.graph v)))
+          (sym (ap (leads d v) r.0 ∙ f)) ∙ (ap (λ m. has_origin m d b v key) (sym em) ∙ r.1) in
+          by_extended i key r.0 origin
+          (subst (λ n. n ≤ ref) (ap (λ m. unlock_base m d b v i (first_key b v i)) em ∙ ap (unlock_base Hashkeys d b v i) eo) low)
+      go Hashkeys em None eo =
+          let open_at : list_any (λ c. opens_without_party v (opened (history b c) i)) (leaving d.graph v) ≡ true =
+          ap (λ o. is_some o || list_any (λ c. opens_without_party v (opened (history b c) i)) (leaving d.graph v)) (sym eo) ∙ enabled in
+          by_without i open_at
+          (subst (λ n. n ≤ ref) (ap (λ m. unlock_base m d b v i (first_key b v i)) em ∙ ap (unlock_base Hashkeys d b v i) eo) low)
+      go Timelocks em (Some key) eo =
+          let r = first_rules i key eo in
+          let origin : list_any (λ a. list_any (λ e. carries key.secret (accepted e)) (history b a)) (leaving d.graph v) ≡ true =
+          ap (λ z. z || list_any (λ a. list_any (λ e. carries key.secret (accepted e)) (history b a)) (leaving d.graph v)) (sym (ap (leads d v) r.0
+          ∙ f)) ∙ (ap (λ m. has_origin m d b v key) (sym em) ∙ r.1) in
+          let c = open_revealed i key below (timed em) origin in
+          seen_open c.0 i em c.1 c.2 (subst (λ n. n ≤ ref) (ap (λ m. unlock_base m d b v i (first_key b v i)) em) low)
+      go Timelocks em None eo =
+          let open_at : list_any (λ c. opens_without_party v (opened (history b c) i)) (leaving d.graph v) ≡ true =
+          ap (λ o. is_some o || list_any (λ c. opens_without_party v (opened (history b c) i)) (leaving d.graph v)) (sym eo) ∙ enabled in
+          let c = open_without i open_at in
+          seen_open c.0 i em c.1 c.2 (subst (λ n. n ≤ ref) (ap (λ m. unlock_base m d b v i (first_key b v i)) em) low)
+
 -- A party's knowledge k of the book b, in which everything of b at a height of at most ref stands,
 -- and over which nothing is due but perhaps publishes, and unlocks for locks that are held back.
 pub record Told (d : Deal) (b : Histories) (v : ℕ) (w : Wallet) (ref due : ℕ) : Type 0 where
@@ -254,59 +455,15 @@ pub record Informed (d : Deal) (b : Histories) (v : ℕ) (w : Wallet) (ref due :
 
 module _ (d : Deal) (b : Histories) (v : ℕ) (w : Wallet) (ref due : ℕ) (k : IsAccepted d) (legal : IsLegalBook d b) (conducted : IsConducted d b v)
     (x : Told d b v w ref due) where
-  near_below : (a : ℕ) → IsNear d v a → a < length d.graph.arcs
-  near_below a (inl i) = (leaves d v a i).0
-  near_below a (inr i) = (enters d v a i).0
-
-  legal_on : (a : ℕ) → a < length d.graph.arcs → IsLegal d a (history b a)
-  legal_on a l = legal.legal a (rw legal.one_each l)
-
-  -- what stands at a height of at most ref is known
-  in_known : (a : ℕ) (past : List Entry) (e : Entry) → IsNear d v a → IsMoment (history b a) past e → height past ≤ ref → IsMoment (history x.known a) past e
-  in_known a past e l m low = let h = x.low a l in in_front (history x.known a) (history b a) past e (x.grows a) m (omega arith)
-
-  published_known : (a : ℕ) (p : Publication) → IsNear d v a → published (history b a) ≡ Some p → p.height ≤ ref → published (history x.known a) ≡ Some p
-  published_known a p l e low =
-      let done = published_done d a (history b a) p (legal_on a (near_below a l)) e in
-      let at : p.height ≡ height done.past = done.at in
-      let m = in_known a done.past done.now l done.stands (omega arith) in
-      let s =
-      first_given_answer-now (λ e. publication e.height (accepted e)) (history x.known a) done.past done.now (record {
-        height = done.now.height;
-        terms =
-            p.terms;
-      }) m (ap (publication done.now.height) done.took) in
-      sym (same_published d x.known b a x.grows s) ∙ e
-
-  opened_known : (a i : ℕ) (o : Opening) → IsNear d v a → opened (history b a) i ≡ Some o → o.height ≤ ref → opened (history x.known a) i ≡ Some o
-  opened_known a i o l e low =
-      let u = opened_done d a (history b a) i o (legal_on a (near_below a l)) e in
-      let at : o.height ≡ height u.0.past = u.0.at in
-      let m = in_known a u.0.past u.0.now l u.0.stands (omega arith) in
-      let s : is_open (history x.known a) i ≡ true =
-      subst (λ j. is_open (history x.known a) j ≡ true) u.1 (opened-now (history x.known a) u.0.past u.0.now o.key m u.0.took) in
-      let q = is_some-of (opened (history x.known a) i) s in
-      q.1 ∙ (sym (opened-more (history x.known a) (history b a) i q.0 (x.grows a) q.1) ∙ e)
-
-  good_known : (a : ℕ) → IsNear d v a → is_good d b a ≡ true → publication_height (published (history b a)) ≤ ref → is_good d x.known a ≡ true
-  good_known a l g low =
-      let c = correct d b a (and_parts (is_correct d b a) _ g).0 in
-      let h : publication_height (published (history b a)) ≡ c.contract.height = ap publication_height c.published in
-      let same : published (history x.known a) ≡ published (history b a) = published_known a c.contract l c.published (omega arith) ∙ sym c.published in
-      ap (λ o. is_arc_correct d a o && nat_le (publication_height o) (times.opening_deadline d.start d.delta d.bound)) same ∙ g
-
-  ready_known : is_ready d b v ≡ true → ready_height d b v ≤ ref → is_ready d x.known v ≡ true
-  unfolding is_ready ready_height
-  ready_known r low = list_all-from (is_good d x.known) (entering d.graph v) (λ a i.
-      let h = greatest-in (λ a. publication_height (published (history b a))) (entering d.graph v) a i in
-      good_known a (inr i) (ready_good d b v a r i) (omega arith))
+  abbrev sees : Seeing d b v ref
+  sees = record { known = x.known; grows = x.grows; low = x.low }
 
   -- a known call of v that counts is in time
   done_by : (rule : Rule) (a : ℕ) (past : List Entry) (e : Entry) (c : Call) → a < length d.graph.arcs → IsMoment (history x.known a) past e
       → pick_call v e ≡ Some c → counts d b v rule a e.height (Some c) ≡ true → is_done d b v rule a due ≡ true
   done_by rule a past e c l m called counted =
       let m2 = moment_more (history x.known a) (history b a) past e (x.grows a) m in
-      let act = act_of d a (history b a) past e c v (legal_on a l) m2 called in
+      let act = act_of d a (history b a) past e c v (legal_on d b legal a l) m2 called in
       let at : e.height ≡ height past = act.0.at in
       let h1 = height-past (history x.known a) past e m in
       let h2 = x.high a in
@@ -328,7 +485,7 @@ module _ (d : Deal) (b : Histories) (v : ℕ) (w : Wallet) (ref due : ℕ) (k : 
     where
       go : (y : Bool) → leads_one d v ≡ y → (y || is_ready d b v) ≡ true → (leads_one d v || is_ready d x.known v) ≡ true
       go true e m = or-left (leads_one d v) _ e
-      go false e m = or-right (leads_one d v) _ (ready_known m (low e))
+      go false e m = or-right (leads_one d v) _ (ready_known d b v ref k legal conducted sees m (low e))
 
   publish_is : (c : Call) → is_publish (Some c) ≡ true → (t : Terms) × (c ≡ Publish t)
   publish_is (Publish t) e = (t, refl)
@@ -351,23 +508,6 @@ module _ (d : Deal) (b : Histories) (v : ℕ) (w : Wallet) (ref due : ℕ) (k : 
 
   -- Claim.
 
-  triggered_known : (a : ℕ) → IsNear d v a → is_triggered d b a ≡ true → trigger_height d (history b a) ≤ ref → triggered d (history x.known a) ≡ true
-  triggered_known a l t low = list_all-from (is_open (history x.known a)) (locks d) (λ i z.
-      let o = is_some-of (opened (history b a) i) (list_all-in (is_open (history b a)) (locks d) i t z) in
-      let h = greatest-in (λ i. height_of_opening (opened (history b a) i)) (locks d) i z in
-      let at : height_of_opening (opened (history b a) i) ≡ o.0.height = ap height_of_opening o.1 in
-      ap is_some (opened_known a i o.0 l o.1 (omega arith)))
-
-  -- an open lock shows the contract
-  open_published : (a i : ℕ) → a < length d.graph.arcs → is_open (history x.known a) i ≡ true → is_some (published (history x.known a)) ≡ true
-  open_published a i l e =
-      let o = is_some-of (opened (history x.known a) i) e in
-      let lk : IsLegal d a (history x.known a) =
-      all_moments_front (IsLegalMoment d a) (history x.known a) (x.grows a).0 (subst (IsLegal d a) (x.grows a).1 (legal_on a l)) in
-      let u = opened_done d a (history x.known a) i o.0 lk o.1 in
-      let of_u = of_unlock d a u.0.past u.0.act.by o.0.key u.0.clear in
-      ap is_some (published-past (history x.known a) u.0.past u.0.now of_u.contract u.0.stands of_u.published)
-
   claim_is : (c : Call) → is_claiming (Some c) ≡ true → c ≡ Claim
   claim_is Claim e = refl
   claim_is (Publish t) e = absurd (cc e)
@@ -383,8 +523,8 @@ module _ (d : Deal) (b : Histories) (v : ℕ) (w : Wallet) (ref due : ℕ) (k : 
       let i = is_listed-true a (entering d.graph v) p.0 in
       let l = (enters d v a i).0 in
       let same : trigger_height d (history b a) ≡ ref = s.1 in
-      let t = triggered_known a (inr i) p.2 (omega arith) in
-      let shown = open_published a 0 l (list_all-in (is_open (history x.known a)) (locks d) 0 t (in_range 0 (length d.leaders) k.leaders.0)) in
+      let t = triggered_known d b v ref k legal conducted sees a (inr i) p.2 (omega arith) in
+      let shown = open_published d b v ref k legal conducted sees a 0 l (list_all-in (is_open (history x.known a)) (locks d) 0 t (in_range 0 (length d.leaders) k.leaders.0)) in
       let right : is_correct d x.known a ≡ true = ap (is_arc_correct d a) (sym (same_published d x.known b a x.grows shown)) ∙ p.1 in
       let c =
       called_at v (history x.known a) is_claiming refl (and_not (is_correct d x.known a && is_triggered d x.known a)
@@ -407,10 +547,10 @@ module _ (d : Deal) (b : Histories) (v : ℕ) (w : Wallet) (ref due : ℕ) (k : 
   refund_counts a past e i m called =
       let l = (leaves d v a i).0 in
       let m2 = moment_more (history x.known a) (history b a) past e (x.grows a) m in
-      let at : e.height ≡ height past = (act_of d a (history b a) past e Refund v (legal_on a l) m2 called).0.at in
+      let at : e.height ≡ height past = (act_of d a (history b a) past e Refund v (legal_on d b legal a l) m2 called).0.at in
       let expired : has_expired d a past e.height ≡ true = kept d b v conducted a past e Refund m2 called in
       let still =
-      still_expired d (times_law d k) a l past (history b a) (legal_on a l) (e ∷ m2.0, m2.1) (λ p q.
+      still_expired d (times_law d k) a l past (history b a) (legal_on d b legal a l) (e ∷ m2.0, m2.1) (λ p q.
       OwnPublish.correct (own_publish d b v conducted legal a p i q)) e.height e.height expired (omega arith) (omega arith) in
       done_by ToRefund a past e Refund l m called (lt-ltb (least_expiry d a (history b a)) e.height (expired-least d a (history b a) e.height still))
 
@@ -421,7 +561,7 @@ module _ (d : Deal) (b : Histories) (v : ℕ) (w : Wallet) (ref due : ℕ) (k : 
   unfolding keeps ready_height
   own_known none a p i same e =
       let out = leaves d v a i in
-      let done = published_done d a (history b a) p (legal_on a out.0) e in
+      let done = published_done d a (history b a) p (legal_on d b legal a out.0) e in
       let by : done.act.by ≡ v = (of_publish d a done.past done.act.by p.terms done.clear).party ∙ out.1 in
       let called = pick_call-act d a done.past done.now (Publish p.terms) v done.act by in
       let r =
@@ -480,177 +620,17 @@ module _ (d : Deal) (b : Histories) (v : ℕ) (w : Wallet) (ref due : ℕ) (k : 
           refund_counts a c.past c.now i c.stands (c.called ∙ ap Some (refund_is c.call c.passes))
       go i l shown shut late (Some Claimed) z =
           let lk : IsLegal d a (history x.known a) =
-          all_moments_front (IsLegalMoment d a) (history x.known a) (x.grows a).0 (subst (IsLegal d a) (x.grows a).1 (legal_on a l)) in
+          all_moments_front (IsLegalMoment d a) (history x.known a) (x.grows a).0 (subst (IsLegal d a) (x.grows a).1 (legal_on d b legal a l)) in
           let c = (claimed_done d a (history x.known a) lk z).1 in
           absurd (false≢true (sym shut ∙ triggered-past d (history x.known a) c.past c.now c.stands (of_claim d a c.past c.act.by c.clear).triggered))
       go i l shown shut late (Some Refunded) z =
           let lk : IsLegal d a (history x.known a) =
-          all_moments_front (IsLegalMoment d a) (history x.known a) (x.grows a).0 (subst (IsLegal d a) (x.grows a).1 (legal_on a l)) in
+          all_moments_front (IsLegalMoment d a) (history x.known a) (x.grows a).0 (subst (IsLegal d a) (x.grows a).1 (legal_on d b legal a l)) in
           let c = (refunded_done d a (history x.known a) lk z).1 in
           let by : c.act.by ≡ v = (of_refund d a c.past c.act.by c.clear).party ∙ (leaves d v a i).1 in
           refund_counts a c.past c.now i c.stands (pick_call-act d a c.past c.now Refund v c.act by)
 
   -- Unlock.
-
-  -- a leaving arc on which a known hashkey opened lock i, without v on its path
-  record Seen (i : ℕ) : Type 0 where
-    arc : ℕ
-    leaves : IsElement arc (leaving d.graph v)
-    opening : Opening
-    opened : opened (history b arc) i ≡ Some opening
-    without : is_listed v opening.key.path ≡ false
-    early : opening.height ≤ ref
-
-  seen_key_some : (i : ℕ) → Seen i → is_some (seen_key d v x.known i) ≡ true
-  unfolding seen_key
-  seen_key_some i s =
-      let o = opened_known s.arc i s.opening (inl s.leaves) s.opened s.early in
-      first_given_answer-in (λ a. key_without_party v (opened (history x.known a) i)) (leaving d.graph v) s.arc s.opening.key s.leaves
-      (ap (key_without_party v) o ∙ ap (λ z. cond z None (Some s.opening.key)) s.without)
-
-  opens_without_parts : (o : Option Opening) → opens_without_party v o ≡ true → (z : Opening) × (o ≡ Some z) × (is_listed v z.key.path ≡ false)
-  opens_without_parts None e = absurd (cc e)
-  opens_without_parts (Some z) e = (z, refl, not-true-of _ e)
-
-  -- the hashkey of v's first unlock call, with the rules that it keeps
-  first_rules : (i : ℕ) (key : Hashkey) → first_key b v i ≡ Some key → (key.lock ≡ i) × (has_origin d.mode d b v key ≡ true)
-  unfolding first_key keeps
-  first_rules i key e =
-      let f = first_at (λ e. unlock_hashkey i (pick_call v e)) (flat_map (λ h. h) b) key e in
-      let parts = key_parts i (pick_call v f.now) key f.gives in
-      let y = from_whole b f.now (subst (IsElement f.now) (sym f.stands.1) (in_from_moment f.past f.now f.stands.0)) in
-      let m = moment_from_in (history b y.0) f.now y.2 in
-      let q =
-      and_five (is_some (published m.0)) (is_ready d b v) (is_first_key (first_key b v key.lock) key) (is_valid d y.0 (lock_hashlock d key.lock) key)
-      _ (kept d b v conducted y.0 m.0 f.now (Unlock key) m.1 parts.0) in
-      (parts.1, q.4)
-
-  -- Hashkeys.
-
-  seen_extended : (i t : ℕ) (key : Hashkey) → key.lock ≡ i → (y : Extended d b v key t) → is_listed v y.inner.path ≡ false → t ≤ ref → Seen i
-  seen_extended i t key lock y apart low =
-      let out = leaves d v y.arc y.leaves in
-      let done = done_at d y.arc (history b y.arc) y.past y.now (Unlock y.inner) t (legal_on y.arc out.0) y.stands y.took y.height in
-      let long = longer key v y.inner key.path key.sigs key y.extends in
-      let lock_is : y.inner.lock ≡ i = long.1 ∙ lock in
-      let s : is_open (history b y.arc) i ≡ true =
-      subst (λ j. is_open (history b y.arc) j ≡ true) lock_is (opened-now (history b y.arc) y.past y.now y.inner y.stands y.took) in
-      let o = is_some-of (opened (history b y.arc) i) s in
-      let one = opened_key d y.arc (history b y.arc) i t y.inner o.0 (legal_on y.arc out.0) done lock_is o.1 in
-      let at : o.0.height ≡ t = one.1 in
-      record {
-        arc = y.arc;
-        leaves = y.leaves;
-        opening = o.0;
-        opened = o.1;
-        without = ap (λ z. is_listed v z.path) one.0 ∙ apart;
-        early = omega arith;
-      }
-
-  -- the hashkey that v extended
-  by_extended : (i : ℕ) (key : Hashkey) → key.lock ≡ i
-      → list_any (λ a. list_any (λ e. extends_without_party v key (accepted e)) (history b a)) (leaving d.graph v) ≡ true
-      → greatest_used d b v (is_used d b v i (Some key)) ≤ ref → Seen i
-  by_extended i key lock e low =
-      let y = in_any (λ a. list_any (λ e. extends_without_party v key (accepted e)) (history b a)) (leaving d.graph v) e in
-      let z = in_any (λ e. extends_without_party v key (accepted e)) (history b y.0) y.2 in
-      let m = moment_from_in (history b y.0) z.0 z.1 in
-      let p = extended_without v key (accepted z.0) z.2 in
-      let used : is_used d b v i (Some key) z.0 ≡ true = ap (extends v key) p.1 ∙ p.3 in
-      let h = used_in d b v (is_used d b v i (Some key)) y.0 z.0 y.1 z.1 used in
-      let extended : Extended d b v key z.0.height =
-      record { arc = y.0; leaves = y.1; past = m.0; now = z.0; stands = m.1; inner = p.0; took = p.1; height = refl; extends = p.3 } in
-      seen_extended i z.0.height key lock extended p.2 (omega arith)
-
-  -- the hashkey that v would extend
-  by_without : (i : ℕ) → list_any (λ c. opens_without_party v (opened (history b c) i)) (leaving d.graph v) ≡ true
-      → greatest_used d b v (is_used d b v i None) ≤ ref → Seen i
-  by_without i e low =
-      let y = in_any (λ c. opens_without_party v (opened (history b c) i)) (leaving d.graph v) e in
-      let o = opens_without_parts (opened (history b y.0) i) y.2 in
-      let s =
-      is_some-of (first_seen_key d b v i) (first_given_answer-in (λ a. key_without_party v (opened (history b a) i)) (leaving d.graph v) y.0 o.0.key y.1
-      (ap (key_without_party v) o.1 ∙ ap (λ z. cond z None (Some o.0.key)) o.2)) in
-      let f = first_at (λ a. key_without_party v (opened (history b a) i)) (leaving d.graph v) s.0 s.1 in
-      let w = subst (IsElement f.now) (sym f.stands.1) (in_from_moment f.past f.now f.stands.0) in
-      let p = key_without_parts v (opened (history b f.now) i) s.0 f.gives in
-      let u = opened_done d f.now (history b f.now) i p.0 (legal_on f.now (leaves d v f.now w).0) p.1 in
-      let carried : is_used d b v i None u.0.now ≡ true =
-      ap (λ o. is_carried o (accepted u.0.now)) s.1 ∙ (ap (is_carried (Some s.0)) u.0.took
-      ∙ (ap (λ x. same_key x p.0.key) (sym p.2) ∙ same_key-refl p.0.key)) in
-      let h =
-      used_in d b v (is_used d b v i None) f.now u.0.now w (subst (IsElement u.0.now) (sym u.0.stands.1) (in_from_moment u.0.past u.0.now u.0.stands.0))
-      carried in
-      let at : p.0.height ≡ height u.0.past = u.0.at in
-      let at2 : u.0.now.height ≡ height u.0.past = u.0.act.at in
-      record { arc = f.now; leaves = w; opening = p.0; opened = p.1; without = p.3; early = omega arith }
-
-  -- Timelocks.
-
-  seen_open : (c i : ℕ) → d.mode ≡ Timelocks → IsElement c (leaving d.graph v) → is_open (history b c) i ≡ true
-      → greatest (λ a. height_of_opening (opened (history b a) i)) (leaving d.graph v) ≤ ref → Seen i
-  seen_open c i mode z e low =
-      let o = is_some-of (opened (history b c) i) e in
-      let l = (leaves d v c z).0 in
-      let u = opened_done d c (history b c) i o.0 (legal_on c l) o.1 in
-      let of_u = of_unlock d c u.0.past u.0.act.by o.0.key u.0.clear in
-      let h = greatest-in (λ a. height_of_opening (opened (history b a) i)) (leaving d.graph v) c z in
-      let at : height_of_opening (opened (history b c) i) ≡ o.0.height = ap height_of_opening o.1 in
-      record { arc = c; leaves = z; opening = o.0; opened = o.1; without = ap (is_listed v) (no_path d c o.0.key mode of_u.path); early = omega arith }
-
-  open_revealed : (i : ℕ) (key : Hashkey) → i < length d.leaders → length d.leaders ≡ 1
-      → list_any (λ a. list_any (λ e. carries key.secret (accepted e)) (history b a)) (leaving d.graph v) ≡ true
-      → (c : ℕ) × IsElement c (leaving d.graph v) × (is_open (history b c) i ≡ true)
-  open_revealed i key below one e =
-      let y = in_any (λ a. list_any (λ e. carries key.secret (accepted e)) (history b a)) (leaving d.graph v) e in
-      let z = in_any (λ e. carries key.secret (accepted e)) (history b y.0) y.2 in
-      let r = revealed key.secret (accepted z.0) z.2 in
-      let m = moment_from_in (history b y.0) z.0 z.1 in
-      let act = (clear_at d y.0 (history b y.0) m.0 z.0 (Unlock r.0) (legal_on y.0 (leaves d v y.0 y.1).0) m.1 r.1).0 in
-      let low : r.0.lock < length d.leaders = lock-below d y.0 r.0 act.fits in
-      let same : r.0.lock ≡ i = omega arith in
-      (y.0, y.1, subst (λ j. is_open (history b y.0) j ≡ true) same (opened-now (history b y.0) m.0 z.0 r.0 m.1 r.1))
-
-  open_without : (i : ℕ) → list_any (λ c. opens_without_party v (opened (history b c) i)) (leaving d.graph v) ≡ true
-      → (c : ℕ) × IsElement c (leaving d.graph v) × (is_open (history b c) i ≡ true)
-  open_without i e =
-      let y = in_any (λ c. opens_without_party v (opened (history b c) i)) (leaving d.graph v) e in
-      (y.0, y.1, ap is_some (opens_without_parts (opened (history b y.0) i) y.2).1)
-
-  -- what an enabled unlock of a lock that v doesn't lead extends is known
-  seen : (i : ℕ) → i < length d.leaders → leads d v i ≡ false
-      → (is_some (first_key b v i) || list_any (λ c. opens_without_party v (opened (history b c) i)) (leaving d.graph v)) ≡ true
-      → unlock_base d.mode d b v i (first_key b v i) ≤ ref → Seen i
-  seen i below f enabled low = go d.mode refl (first_key b v i) refl
-    where
-      timed : d.mode ≡ Timelocks → length d.leaders ≡ 1
-      timed e = (subst (λ m. IsTimed m d) e k.timed).0
-
-      go : (m : Mode) → d.mode ≡ m → (o : Option Hashkey) → first_key b v i ≡ o → Seen i
-      go Hashkeys em (Some key) eo =
-          let r = first_rules i key eo in
-          let origin : list_any (λ a. list_any (λ e. extends_without_party v key (accepted e)) (history b a)) (leaving d.graph v) ≡ true =
-          ap (λ z. cond z (is_alone v key.path) (list_any (λ a. list_any (λ e. extends_without_party v key (accepted e)) (history b a)) (leaving d.graph v)))
-          (sym (ap (leads d v) r.0 ∙ f)) ∙ (ap (λ m. has_origin m d b v key) (sym em) ∙ r.1) in
-          by_extended i key r.0 origin
-          (subst (λ n. n ≤ ref) (ap (λ m. unlock_base m d b v i (first_key b v i)) em ∙ ap (unlock_base Hashkeys d b v i) eo) low)
-      go Hashkeys em None eo =
-          let open_at : list_any (λ c. opens_without_party v (opened (history b c) i)) (leaving d.graph v) ≡ true =
-          ap (λ o. is_some o || list_any (λ c. opens_without_party v (opened (history b c) i)) (leaving d.graph v)) (sym eo) ∙ enabled in
-          by_without i open_at
-          (subst (λ n. n ≤ ref) (ap (λ m. unlock_base m d b v i (first_key b v i)) em ∙ ap (unlock_base Hashkeys d b v i) eo) low)
-      go Timelocks em (Some key) eo =
-          let r = first_rules i key eo in
-          let origin : list_any (λ a. list_any (λ e. carries key.secret (accepted e)) (history b a)) (leaving d.graph v) ≡ true =
-          ap (λ z. z || list_any (λ a. list_any (λ e. carries key.secret (accepted e)) (history b a)) (leaving d.graph v)) (sym (ap (leads d v) r.0
-          ∙ f)) ∙ (ap (λ m. has_origin m d b v key) (sym em) ∙ r.1) in
-          let c = open_revealed i key below (timed em) origin in
-          seen_open c.0 i em c.1 c.2 (subst (λ n. n ≤ ref) (ap (λ m. unlock_base m d b v i (first_key b v i)) em) low)
-      go Timelocks em None eo =
-          let open_at : list_any (λ c. opens_without_party v (opened (history b c) i)) (leaving d.graph v) ≡ true =
-          ap (λ o. is_some o || list_any (λ c. opens_without_party v (opened (history b c) i)) (leaving d.graph v)) (sym eo) ∙ enabled in
-          let c = open_without i open_at in
-          seen_open c.0 i em c.1 c.2 (subst (λ n. n ≤ ref) (ap (λ m. unlock_base m d b v i (first_key b v i)) em) low)
 
   due_key_some : (i : ℕ) → (leads d v i || is_some (seen_key d v x.known i)) ≡ true → due_key d v w (x.signed i) x.known i ≡ None → ⊥
   unfolding due_key
@@ -711,17 +691,17 @@ module _ (d : Deal) (b : Histories) (v : ℕ) (w : Wallet) (ref due : ℕ) (k : 
       go z ready enabled same (inr h) true f =
           let r : ready_height d b v ≡ ref =
           ap (λ y. cond y (ready_height d b v) (max (ready_height d b v) (unlock_base d.mode d b v i (first_key b v i)))) (sym f) ∙ same in
-          let may = and_both (is_ready d x.known v) _ (ready_known ready (omega arith)) (ap not h) in
+          let may = and_both (is_ready d x.known v) _ (ready_known d b v ref k legal conducted sees ready (omega arith)) (ap not h) in
           let top = low_height ready in
           absurd (due_key_some i (or-left (leads d v i) _ f) (x.idle.unlock i a below z may (free (λ q. omega arith))))
       go z ready enabled same (inr h) false f =
           let r : max (ready_height d b v) (unlock_base d.mode d b v i (first_key b v i)) ≡ ref =
           ap (λ y. cond y (ready_height d b v) (max (ready_height d b v) (unlock_base d.mode d b v i (first_key b v i)))) (sym f) ∙ same in
-          let may = and_both (is_ready d x.known v) _ (ready_known ready (omega arith)) (ap not h) in
+          let may = and_both (is_ready d x.known v) _ (ready_known d b v ref k legal conducted sees ready (omega arith)) (ap not h) in
           let known =
-          seen i below f (ap (λ y. y || is_some (first_key b v i) || list_any (λ c. opens_without_party v (opened (history b c) i)) (leaving d.graph v))
+          seen d b v ref k legal conducted sees i below f (ap (λ y. y || is_some (first_key b v i) || list_any (λ c. opens_without_party v (opened (history b c) i)) (leaving d.graph v))
           (sym f) ∙ enabled) (omega arith) in
-          absurd (due_key_some i (or-right (leads d v i) _ (seen_key_some i known)) (x.idle.unlock i a below z may (free (λ q. absurd (false≢true (sym f ∙ q))))))
+          absurd (due_key_some i (or-right (leads d v i) _ (seen_key_some d b v ref k legal conducted sees i known)) (x.idle.unlock i a below z may (free (λ q. absurd (false≢true (sym f ∙ q))))))
 
 module _ (d : Deal) (b : Histories) (v : ℕ) (w : Wallet) (ref due : ℕ) (k : IsAccepted d) (legal : IsLegalBook d b) (conducted : IsConducted d b v)
     (x : Informed d b v w ref due) where

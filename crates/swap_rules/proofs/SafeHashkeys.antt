@@ -24,7 +24,7 @@ use Rattle.swap_rules.specs.Party.{is_ready, ready_height, is_triggered, pick_ca
 use Rattle.swap_rules.specs.Conduct.{is_first_key, IsConducted, extends, extends_inner_key, extends_without_party}
 use Rattle.swap_rules.specs.Late.{is_carried, is_used, height_if, greatest_used, unlock_base, when, reference_height}
 use Rattle.swap_rules.specs.Forged.{forges, has_made, has_forged_suffix}
-use Rattle.swap_rules.specs.Outcome.{outcome, IsEnded}
+use Rattle.swap_rules.specs.Outcome.{outcome, EnteringHaveEnded}
 use Rattle.swap_rules.proofs.Entering.{DueUnlock, UnlocksInTime, parse_call, call_due, ready_below, gets_all}
 use Rattle.swap_digraph.proofs.Paths.{in-is_listed, last_unlock as end_in, some_length}
 use Rattle.swap_rules.proofs.Words.{leaves, or-left, or-first, key_parts, same_key-path, leader_reads}
@@ -346,7 +346,7 @@ module _ (d : Deal) (b : Histories) (v : ℕ) (legal : IsLegalBook d b) (conduct
         false≢true (sym missing.2 ∙ has)
 
 -- an enabled unlock that isn't late is called while its hashkey is accepted
-pub hashkeys_unlock : (d : Deal) (b : Histories) (v : ℕ) → HashkeyLaw d → IsLegalBook d b → IsEnded d b → IsConducted d b v → UnlocksInTime d b v → UnlocksAll d b v
+pub hashkeys_unlock : (d : Deal) (b : Histories) (v : ℕ) → HashkeyLaw d → IsLegalBook d b → EnteringHaveEnded d b v → IsConducted d b v → UnlocksInTime d b v → UnlocksAll d b v
 hashkeys_unlock d b v law legal ended conducted unlocks i a r below enabled =
     let e = enabled_parts d b v i a r enabled in
     let due = due_known_hashkeys d b v legal conducted law e.ready a i e.enters below e.known in

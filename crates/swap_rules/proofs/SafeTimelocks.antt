@@ -19,7 +19,7 @@ use Rattle.swap_rules.specs.Party.{is_ready, ready_height, is_triggered, first_k
 use Rattle.swap_rules.specs.Conduct.{IsConducted}
 use Rattle.swap_rules.specs.Late.{height_of_opening, unlock_base, when, reference_height}
 use Rattle.swap_rules.specs.Forged.{forges}
-use Rattle.swap_rules.specs.Outcome.{outcome, IsEnded}
+use Rattle.swap_rules.specs.Outcome.{outcome, EnteringHaveEnded}
 use Rattle.swap_rules.proofs.Entering.{DueUnlock, UnlocksInTime, parse_call, call_due, ready_below, gets_all}
 use Rattle.swap_digraph.proofs.Paths.{in-is_listed}
 use Rattle.swap_rules.proofs.Words.{enters, act_of}
@@ -159,7 +159,7 @@ module _ (d : Deal) (b : Histories) (v : ℕ) (legal : IsLegalBook d b) (conduct
         false≢true (sym missing.2 ∙ has)
 
 -- an enabled unlock that isn't late is called while its hashkey is accepted
-pub timelocks_unlock : (d : Deal) (b : Histories) (v : ℕ) → TimelockLaw d → IsLegalBook d b → IsEnded d b → IsConducted d b v → UnlocksInTime d b v → UnlocksAll d b v
+pub timelocks_unlock : (d : Deal) (b : Histories) (v : ℕ) → TimelockLaw d → IsLegalBook d b → EnteringHaveEnded d b v → IsConducted d b v → UnlocksInTime d b v → UnlocksAll d b v
 timelocks_unlock d b v law legal ended conducted unlocks i a r below enabled =
     let e = enabled_parts d b v i a r enabled in
     let due = due_known d b v legal conducted law e.ready a i e.enters below e.known in

@@ -211,8 +211,8 @@ module _ (d : Deal) (b : Histories) (k : IsAccepted d) (legal : IsLegalBook d b)
             (λ j m e.
             let own = (passing v below).due (all_ready v) a j w m
             (ap (λ x. x || is_some (first_key b v j) || list_any (λ c. opens_without_party v (opened (history b c) j)) (leaving d.graph v)) e) in
-            (own.ref + d.delta, call_due d b v legal ended c.conducted (unlocks_in_time d b v c.on_time) a j w own))
-            (call_due d b v legal ended c.conducted (unlocks_in_time d b v c.on_time) a i w due),
+            (own.ref + d.delta, call_due d b v legal (λ a w. ended a (enters d v a w).0) c.conducted (unlocks_in_time d b v c.on_time) a j w own))
+            (call_due d b v legal (λ a w. ended a (enters d v a w).0) c.conducted (unlocks_in_time d b v c.on_time) a i w due),
       )
 
   -- Along a path to the leader every entering arc is opened.
@@ -470,7 +470,7 @@ module _ (d : Deal) (b : Histories) (k : IsAccepted d) (legal : IsLegalBook d b)
   gets : (v : ℕ) → v < d.graph.n → (a : ℕ) → IsElement a (entering d.graph v) → is_got d b a ≡ true
   gets v below a w = let c =
       all v below in claims d b v legal c.conducted (times_law d k) (all_ready v)
-      (on_time_claims d b v legal ended c.conducted (times_law d k) c.on_time) a w (all_triggered a (enters d v a w).0)
+      (on_time_claims d b v legal (λ a w. ended a (enters d v a w).0) c.conducted (times_law d k) c.on_time) a w (all_triggered a (enters d v a w).0)
 
   paid : (a : ℕ) → a < length d.graph.arcs → balance d a (history b a) (counterparty d a) ≡ amount d a
   paid a la =

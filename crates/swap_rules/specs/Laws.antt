@@ -1,5 +1,5 @@
 -- The laws of a book, as the contracts state them.
-use Rattle.std.specs.Prelude.{◌≡◌, ◌≢◌, ℕ, ◌+◌, ◌*◌, ◌<◌, ◌≤◌, Bool, true, false, ◌&&◌, ◌==◌, Option, Some, List, [], ◌++◌, length, set}
+use Rattle.std.specs.Prelude.{◌≡◌, ◌≢◌, ℕ, ◌+◌, ◌*◌, ◌<◌, ◌≤◌, Bool, true, false, ◌&&◌, ◌||◌, ◌==◌, Option, Some, List, [], ◌++◌, length, set}
 use Rattle.std.specs.List.{list_any}
 use Rattle.swap_base.specs.Lists.{IsElement, IsMoment}
 use Rattle.time_bounds.specs.Times as times
@@ -22,7 +22,7 @@ use Rattle.swap_rules.specs.Late.{reference_height, is_late}
 use Rattle.swap_rules.specs.Forged.{is_forged}
 use Rattle.swap_rules.specs.Due.{Wallet, Action, due}
 use Rattle.swap_rules.specs.Findings.{findings, deal_rules}
-use Rattle.swap_rules.specs.Outcome.{outcome, IsEnded}
+use Rattle.swap_rules.specs.Outcome.{outcome, IsEnded, EnteringHaveEnded, LeavingHaveEnded}
 use Rattle.ledger_core.specs.Ledger.{after_call}
 use Rattle.swap_rules.specs.Machine.{Knows, IsWallet, KeepsRules, IsSound, noted}
 use Rattle.swap_rules.specs.Rounds.{IsRounds, IsDoneInTime, AreRaceBooks, round_book}
@@ -58,10 +58,12 @@ pub record IsSafe (d : Deal) (b : Histories) (v : ℕ) : Type 0 where
   pub safe : IsUnforged d b v → outcome d b v ≢ Underwater
   pub refunds : HasRefunds d b v
 
--- in every legal and ended book of an accepted deal a party that is conducted and nowhere late is
--- safe
+-- in every legal book of an accepted deal a party that is conducted and nowhere late is safe, if
+-- the ledgers next to it have ended; the others may stand still
 abbrev pub EveryBookIsSafe : Type 0
-EveryBookIsSafe = (d : Deal) (b : Histories) (v : ℕ) → IsAccepted d → IsLegalBook d b → IsEnded d b → IsConducted d b v → IsOnTime d b v → IsSafe d b v
+EveryBookIsSafe =
+    (d : Deal) (b : Histories) (v : ℕ) → IsAccepted d → IsLegalBook d b → EnteringHaveEnded d b v → LeavingHaveEnded d b v → IsConducted d b v
+    → IsOnTime d b v → IsSafe d b v
 
 -- What a conforming party keeps if nothing is found of it.
 pub record Conforms (d : Deal) (b : Histories) (v : ℕ) : Type 0 where
@@ -108,12 +110,13 @@ WithoutFindingsAllIsTransferred =
     (d : Deal) (conforming : ℕ → Bool) (b : Histories) (k : IsAccepted d) → IsLegalBook d b → ((v : ℕ) → v < d.graph.n → conforming v ≡ true)
     → findings d conforming b ≡ [] → IsTransferred d b k
 
--- the finding says that v broke a rule of conduct or was late, or that a ledger is unfinished
-abbrev pub is_against_party : ℕ → Finding → Bool
-is_against_party v (Broke u a e) = u == v
-is_against_party v (Late u rule a due) = u == v
-is_against_party v (Forged u a e) = false
-is_against_party v (Unfinished a h) = true
+-- the finding says that v broke a rule of conduct or was late, or that a ledger next to v is
+-- unfinished
+abbrev pub is_against_party : Deal → ℕ → Finding → Bool
+is_against_party d v (Broke u a e) = u == v
+is_against_party d v (Late u rule a due) = u == v
+is_against_party d v (Forged u a e) = false
+is_against_party d v (Unfinished a h) = (party d a == v) || (counterparty d a == v)
 
 -- the finding says that an entry of an arc that leaves v is forged in v's name
 abbrev pub names_party : Deal → ℕ → Finding → Bool
@@ -127,7 +130,7 @@ names_party d v (Unfinished a h) = false
 abbrev pub UnnamedIsSafe : Type 0
 UnnamedIsSafe =
     (d : Deal) (conforming : ℕ → Bool) (b : Histories) (v : ℕ) → IsAccepted d → IsLegalBook d b → v < d.graph.n → conforming v ≡ true
-    → list_any (is_against_party v) (findings d conforming b) ≡ false
+    → list_any (is_against_party d v) (findings d conforming b) ≡ false
     → (list_any (names_party d v) (findings d conforming b) ≡ false → outcome d b v ≢ Underwater) × HasRefunds d b v
 
 -- in a legal book of an accepted deal in which every party is conducted, no entry is forged in

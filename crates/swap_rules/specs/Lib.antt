@@ -11,4 +11,5 @@ pub mod Rounds
 pub mod Laws
 pub mod Walking
 pub mod Rest
+pub mod Counted
 pub mod Useful

@@ -1,5 +1,6 @@
 -- How a book ended for a party (Herlihy 2018, section 3).
 use Rattle.std.specs.Prelude.{ℕ, ◌<◌, Bool, true, false, ◌&&◌, ◌==◌, nat_lt, length, count_by, Option, Some, None, if◌then◌else◌}
+use Rattle.swap_base.specs.Lists.{IsElement}
 use Rattle.time_bounds.specs.Times as times
 use Rattle.swap_digraph.specs.Graph.{leaving, entering}
 use Rattle.swap_digraph.specs.declared.deal.Deal.{Deal}
@@ -40,3 +41,11 @@ outcome d b v =
 -- the book has ended: each ledger's height is above the horizon
 abbrev pub IsEnded : Deal → Histories → Type 0
 IsEnded d b = (a : ℕ) → a < length d.graph.arcs → times.horizon d.start d.delta d.bound < height (history b a)
+
+-- each ledger that enters v has ended
+abbrev pub EnteringHaveEnded : Deal → Histories → ℕ → Type 0
+EnteringHaveEnded d b v = (a : ℕ) → IsElement a (entering d.graph v) → times.horizon d.start d.delta d.bound < height (history b a)
+
+-- each ledger that leaves v has ended
+abbrev pub LeavingHaveEnded : Deal → Histories → ℕ → Type 0
+LeavingHaveEnded d b v = (a : ℕ) → IsElement a (leaving d.graph v) → times.horizon d.start d.delta d.bound < height (history b a)

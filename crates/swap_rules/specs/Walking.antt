@@ -1,18 +1,17 @@
 -- Walking away: what keeps a party safe whatever it publishes or leaves out, and what a party keeps
 -- if it published nothing.
-use Rattle.std.specs.Prelude.{◌≡◌, ◌≢◌, ◌==◌, ℕ, Bool, ◌+◌, ◌*◌, ◌<◌, ◌≤◌, nat_le, true, false, not, ◌&&◌, List, [], ◌++◌, length, Option, Some, None, is_some}
-use Rattle.std.specs.Prelude.{is_none, if◌then◌else◌}
-use Rattle.std.specs.List.{list_any, list_all, flat_map}
+use Rattle.std.specs.Prelude.{◌≡◌, ◌≢◌, ◌==◌, ℕ, Bool, ◌<◌, ◌≤◌, true, false, List, length, Some, None, is_some}
+use Rattle.std.specs.List.{list_any}
 use Rattle.swap_base.specs.Lists.{IsElement, IsMoment}
 use Rattle.time_bounds.specs.Times as times
-use Rattle.swap_digraph.specs.Graph.{arcs, leaving, entering}
-use Rattle.swap_digraph.specs.Deal.{amount, counterparty, locks, leads}
+use Rattle.swap_digraph.specs.Graph.{leaving, entering}
+use Rattle.swap_digraph.specs.Deal.{amount, party, counterparty, leads}
 use Rattle.swap_digraph.specs.declared.deal.Deal.{Deal}
 use Rattle.hashkey_path.specs.declared.hashkey.Hashkey.{Hashkey}
 use Rattle.escrow_core.specs.Terms.{stated_terms, last_unlock}
 use Rattle.ledger_core.specs.declared.entry.Entry.{Entry}
 use Rattle.ledger_core.specs.declared.entry.Call.TheVariants.{Unlock, Refund, Transfer}
-use Rattle.ledger_core.specs.History.{height, balance, published, Publication, opened}
+use Rattle.ledger_core.specs.History.{balance, published, Publication, opened}
 use Rattle.ledger_core.specs.Book.{Histories, history, IsLegalBook}
 use Rattle.swap_rules.specs.declared.finding.Rule.TheVariants.{Publish as ToPublish, Unlock as ToUnlock, Claim as ToClaim, Refund as ToRefund}
 use Rattle.swap_rules.specs.declared.finding.Finding.{Finding}
@@ -23,10 +22,8 @@ use Rattle.swap_rules.specs.Accepted.{IsAccepted}
 use Rattle.swap_rules.specs.Party.{is_correct, is_ready, is_triggered, pick_call, first_key}
 use Rattle.swap_rules.specs.Conduct.{IsConducted}
 use Rattle.swap_rules.specs.Late.{reference_height}
-use Rattle.swap_rules.specs.Due.{Wallet, Action, is_claiming, has_called, due_arc_unlock, due_claims, due_refunds}
-use Rattle.swap_rules.specs.Outcome.{lost, outcome, IsEnded}
-use Rattle.swap_rules.specs.Machine.{Begins, Knows}
-use Rattle.swap_rules.specs.Rounds.{IsNear}
+use Rattle.swap_rules.specs.Due.{is_claiming, has_called}
+use Rattle.swap_rules.specs.Outcome.{lost, outcome, EnteringHaveEnded, LeavingHaveEnded}
 use Rattle.swap_rules.specs.Laws.{IsOnTime, IsUnforged, IsSafe, HasRefunds, names_party}
 
 -- What a party has to see to.
@@ -81,48 +78,73 @@ pub record IsWatchful (d : Deal) (b : Histories) (v : ℕ) : Type 0 where
 abbrev pub WatchfulIsSafe : Type 0
 WatchfulIsSafe = (d : Deal) (b : Histories) (v : ℕ) → IsAccepted d → IsLegalBook d b → IsConducted d b v → IsWatchful d b v → IsSafe d b v
 
--- in a legal book of an accepted deal that has ended, a conducted party that is nowhere late is
--- watchful
+-- in a legal book of an accepted deal a conducted party that is nowhere late is watchful, if the
+-- ledgers next to it have ended; the others may stand still
 abbrev pub OnTimeIsWatchful : Type 0
 OnTimeIsWatchful =
-    (d : Deal) (b : Histories) (v : ℕ) → IsAccepted d → IsLegalBook d b → IsEnded d b → IsConducted d b v → IsOnTime d b v → IsWatchful d b v
+    (d : Deal) (b : Histories) (v : ℕ) → IsAccepted d → IsLegalBook d b → EnteringHaveEnded d b v → LeavingHaveEnded d b v → IsConducted d b v
+    → IsOnTime d b v → IsWatchful d b v
 
 -- the finding says that v broke a rule of conduct or was late with an unlock or a claim, or that a
--- ledger is unfinished
-abbrev pub endangers : ℕ → Finding → Bool
-endangers v (Broke u a e) = u == v
-endangers v (Late u ToPublish a due) = false
-endangers v (Late u (ToUnlock i) a due) = u == v
-endangers v (Late u ToClaim a due) = u == v
-endangers v (Late u ToRefund a due) = false
-endangers v (Forged u a e) = false
-endangers v (Unfinished a h) = true
+-- ledger that enters v is unfinished
+abbrev pub endangers : Deal → ℕ → Finding → Bool
+endangers d v (Broke u a e) = u == v
+endangers d v (Late u ToPublish a due) = false
+endangers d v (Late u (ToUnlock i) a due) = u == v
+endangers d v (Late u ToClaim a due) = u == v
+endangers d v (Late u ToRefund a due) = false
+endangers d v (Forged u a e) = false
+endangers d v (Unfinished a h) = counterparty d a == v
 
 -- of a legal book of an accepted deal: a conforming party that no finding endangers, and in whose
 -- name none stands, isn't underwater, however late it published, if it did
 abbrev pub LatePublishIsSafe : Type 0
 LatePublishIsSafe =
     (d : Deal) (conforming : ℕ → Bool) (b : Histories) (v : ℕ) → IsAccepted d → IsLegalBook d b → v < d.graph.n → conforming v ≡ true
-    → list_any (endangers v) (findings d conforming b) ≡ false → list_any (names_party d v) (findings d conforming b) ≡ false
+    → list_any (endangers d v) (findings d conforming b) ≡ false → list_any (names_party d v) (findings d conforming b) ≡ false
     → outcome d b v ≢ Underwater
 
 -- the finding says that v broke a rule of conduct or was late with a publish or a refund, or that a
--- ledger is unfinished
-abbrev pub strands : ℕ → Finding → Bool
-strands v (Broke u a e) = u == v
-strands v (Late u ToPublish a due) = u == v
-strands v (Late u (ToUnlock i) a due) = false
-strands v (Late u ToClaim a due) = false
-strands v (Late u ToRefund a due) = u == v
-strands v (Forged u a e) = false
-strands v (Unfinished a h) = true
+-- ledger that leaves v is unfinished
+abbrev pub strands : Deal → ℕ → Finding → Bool
+strands d v (Broke u a e) = u == v
+strands d v (Late u ToPublish a due) = u == v
+strands d v (Late u (ToUnlock i) a due) = false
+strands d v (Late u ToClaim a due) = false
+strands d v (Late u ToRefund a due) = u == v
+strands d v (Forged u a e) = false
+strands d v (Unfinished a h) = party d a == v
 
 -- of a legal book of an accepted deal: a conforming party that no finding strands has its refunds,
 -- however late it unlocked or claimed
 abbrev pub LateUnlockHasRefunds : Type 0
 LateUnlockHasRefunds =
     (d : Deal) (conforming : ℕ → Bool) (b : Histories) (v : ℕ) → IsAccepted d → IsLegalBook d b → v < d.graph.n → conforming v ≡ true
-    → list_any (strands v) (findings d conforming b) ≡ false → HasRefunds d b v
+    → list_any (strands d v) (findings d conforming b) ≡ false → HasRefunds d b v
+
+-- v asks back on an arc that leaves it only after an accepted publish there
+abbrev pub AsksAfterPublish : Deal → Histories → ℕ → Type 0
+AsksAfterPublish d b v =
+    (a : ℕ) (past : List Entry) (e : Entry) → IsElement a (leaving d.graph v) → IsMoment (history b a) past e → pick_call v e ≡ Some Refund
+    → is_some (published past) ≡ true
+
+-- the finding says that v broke a rule of conduct or was late with a refund, or that a ledger that
+-- leaves v is unfinished
+abbrev pub detains : Deal → ℕ → Finding → Bool
+detains d v (Broke u a e) = u == v
+detains d v (Late u ToPublish a due) = false
+detains d v (Late u (ToUnlock i) a due) = false
+detains d v (Late u ToClaim a due) = false
+detains d v (Late u ToRefund a due) = u == v
+detains d v (Forged u a e) = false
+detains d v (Unfinished a h) = party d a == v
+
+-- of a legal book of an accepted deal: a conforming party that asks back only after its publishes,
+-- and that no finding detains, has its refunds, however late it published
+abbrev pub LateAskerHasRefunds : Type 0
+LateAskerHasRefunds =
+    (d : Deal) (conforming : ℕ → Bool) (b : Histories) (v : ℕ) → IsAccepted d → IsLegalBook d b → v < d.graph.n → conforming v ≡ true
+    → AsksAfterPublish d b v → list_any (detains d v) (findings d conforming b) ≡ false → HasRefunds d b v
 
 -- Before a party has published.
 
@@ -186,55 +208,3 @@ LatePublishIsIdle =
     (d : Deal) (b : Histories) (a : ℕ) (p : Publication) → IsLegalBook d b → a < length d.graph.arcs → published (history b a) ≡ Some p
     → times.opening_deadline d.start d.delta d.bound < p.height
     → (is_ready d b (counterparty d a) ≡ false) × (IsConducted d b (counterparty d a) → (i : ℕ) → opened (history b a) i ≡ None)
-
--- What v has to see to that publishes as it likes, and stops whenever it likes.
-
--- v had better not present its own hashkey for lock i. It has presented none for that lock, and a
--- ledger that enters v is above the last height at which its own hashkey is accepted there.
-abbrev pub is_withheld : Deal → ℕ → Histories → ℕ → Bool
-is_withheld d v k i =
-    leads d v i && is_none (first_key k v i)
-    && not (list_all (λ a. nat_le (height (history k a)) (times.opening_deadline d.start d.delta d.bound + d.delta)) (entering d.graph v))
-
--- the unlocks for lock i that are due and not withheld, by entering arc
-abbrev pub pressing_unlocks : Deal → ℕ → Wallet → (ℕ → Option Hashkey) → Histories → ℕ → List Action
-pressing_unlocks d v w signed k i = if is_withheld d v k i then [] else flat_map (due_arc_unlock d v w (signed i) k i) (entering d.graph v)
-
--- what presses: all that is due for v but its publishes, and but unlocks that are withheld
-unfoldable pub pressing : Deal → ℕ → Wallet → (ℕ → Option Hashkey) → Histories → List Action
-pressing d v w signed k = flat_map (pressing_unlocks d v w signed k) (locks d) ++ due_claims d v k ++ due_refunds d v k
-
--- over this knowledge each ledger next to v is past every expiry
-abbrev pub IsPastExpiries : Deal → ℕ → Histories → Type 0
-IsPastExpiries d v known = (a : ℕ) → IsNear d v a → times.last_expiry d.start d.delta d.bound < height (history known a)
-
--- A turn of v in a round from the book `old` to the book `new`. At its end v has a knowledge over
--- which nothing presses, with no entry above the height `most`.
-pub record IsFreeTurn (d : Deal) (v : ℕ) (w : Wallet) (old new : Histories) (most : ℕ) : Type 0 where
-  pub known : Histories
-  pub signed : ℕ → Option Hashkey
-  pub seen : (a : ℕ) → IsNear d v a → Begins (history old a) (history known a)
-  pub knows : (a : ℕ) → Knows v (history known a) (history new a)
-  pub done : pressing d v w signed known ≡ []
-  pub top : (a : ℕ) → height (history known a) ≤ most
-
--- Rounds of `ticks` ticks each. In each of them v does what presses, at most `slack` above the
--- height at which the round began, and publishes as it likes.
-pub record AreFreeRounds (d : Deal) (v : ℕ) (w : Wallet) (ticks slack rounds : ℕ) (books : ℕ → Histories) : Type 0 where
-  pub legal : (r : ℕ) → r ≤ rounds → IsLegalBook d (books r)
-  pub conducted : IsConducted d (books rounds) v
-  pub grows : (r a : ℕ) → r < rounds → Begins (history (books r) a) (history (books (r + 1)) a)
-  pub at : (r a : ℕ) → r ≤ rounds → IsElement a (arcs d.graph) → height (history (books r) a) ≡ r * ticks
-  pub turn : (r : ℕ) → r < rounds → IsFreeTurn d v w (books r) (books (r + 1)) (r * ticks + slack)
-  -- a refund is asked for only where a publish was accepted, as one that is due
-  pub asks : (a : ℕ) (past : List Entry) (e : Entry) → IsElement a (leaving d.graph v) → IsMoment (history (books rounds) a) past e
-      → pick_call v e ≡ Some Refund → is_some (published past) ≡ true
-
--- A party may stop publishing at any time. If a round's ticks and the slack are within delta, it is
--- watchful, and it is safe at the end of rounds that pass the horizon. It may withhold its own
--- hashkeys that come too late.
-abbrev pub MayStopPublishing : Type 0
-MayStopPublishing =
-    (d : Deal) (v : ℕ) (w : Wallet) (ticks slack rounds : ℕ) (books : ℕ → Histories) → IsAccepted d → 1 ≤ ticks → ticks + slack ≤ d.delta
-    → times.horizon d.start d.delta d.bound < rounds * ticks → AreFreeRounds d v w ticks slack rounds books
-    → IsWatchful d (books rounds) v × IsSafe d (books rounds) v

@@ -7,7 +7,8 @@ ghost use Rattle.swap_rules.specs.Laws.{RoundsAreOnTime, RacesAreInTime, AllIsDe
 ghost use Rattle.swap_rules.specs.Rest.{TicksMakeNothingDue};
 ghost use Rattle.swap_rules.specs.Walking.{WatchfulIsSafe, OnTimeIsWatchful, UnpublishedLosesNothing, SilentLosesNothing, LatePublishIsIdle};
 ghost use Rattle.swap_rules.specs.Useful.{UsefulIsDue, OnlyHarmIsLeftOut, EarlyIsUseful, NothingUsefulPresses, TicksMakeNothingUseful};
-ghost use Rattle.swap_rules.specs.Walking.{LatePublishIsSafe, LateUnlockHasRefunds, MayStopPublishing, UnrevealedLosesNothing};
+ghost use Rattle.swap_rules.specs.Useful.{HigherIsLess, TakenIsUseful};
+ghost use Rattle.swap_rules.specs.Walking.{LatePublishIsSafe, LateUnlockHasRefunds, LateAskerHasRefunds, UnrevealedLosesNothing};
 
 /// At every prefix of a legal history each unit stands in one place: in the party's balance, the
 /// counterparty's or the contract.
@@ -27,15 +28,15 @@ pub fn every_book_is_safe()
     ensures { EveryBookIsSafe }
 {}
 
-/// Walking away is safe: a conducted party may publish late, or not at all, and it may stop at any
-/// time. Once an arc that leaves it is triggered, it must unlock in time. At some time it must
-/// claim, and ask back what it published. A party that is nowhere late does both.
+/// Walking away is safe: a conducted party may publish late, or not at all. Once an arc that leaves
+/// it is triggered, it must unlock in time. At some time it must claim, and ask back what it
+/// published. A party that is nowhere late does both.
 pub fn walking_away_is_safe()
     ensures safe { WatchfulIsSafe }
     ensures on_time { OnTimeIsWatchful }
-    ensures stops { MayStopPublishing }
     ensures named { LatePublishIsSafe }
     ensures stranded { LateUnlockHasRefunds }
+    ensures asker { LateAskerHasRefunds }
 {}
 
 /// A party that has published nothing has lost nothing, whatever it does or leaves out. A party
@@ -107,11 +108,14 @@ pub fn ticks_make_nothing_due()
 {}
 
 /// Of what is due a wallet leaves out only what can hurt its party, and nothing at all as long as
-/// contracts may open.
+/// what it presents lands by the height by which contracts open. Once it has lost an arc, each
+/// unlock that is accepted is useful.
 pub fn only_harm_is_left_out()
     ensures due { UsefulIsDue }
     ensures harm { OnlyHarmIsLeftOut }
     ensures early { EarlyIsUseful }
     ensures presses { NothingUsefulPresses }
     ensures ticks { TicksMakeNothingUseful }
+    ensures higher { HigherIsLess }
+    ensures taken { TakenIsUseful }
 {}

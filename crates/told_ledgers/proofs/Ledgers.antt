@@ -1,5 +1,5 @@
 -- What is told line by line, and of each arc.
-use Rattle.std.proofs.Common.{◌≡◌, ◌≢◌, ◌+◌, ◌<◌, ◌≤◌, ◌==◌, ℕ, Bool, true, false, List, ◌∷◌, ◌-◌, cond, length, set, get_or}
+use Rattle.std.proofs.Common.{◌≡◌, ◌≢◌, ◌+◌, ◌<◌, ◌≤◌, ◌==◌, ℕ, zero, suc, Bool, true, false, List, [], ◌∷◌, ◌-◌, cond, length, set, get_or}
 use Rattle.std.proofs.Common.{Result, Ok, Err, refl, sym, ap, ◌∙◌, subst, arith, eqb-true, eq-eqb}
 use Rattle.std.proofs.lemmas.List.{get_or-set_same, get_or-set_other, length-set, length-map}
 use Rattle.std.proofs.Math.ListN.{get_or-map as get_or-map_at}
@@ -25,10 +25,13 @@ use Rattle.told_ledgers.specs.declared.one_ledger.Heard.{Heard}
 use Rattle.told_ledgers.specs.declared.one_ledger.Heard.TheVariants.{More, Bad}
 use Rattle.told_ledgers.specs.declared.stage.Stage.{Stage}
 use Rattle.told_ledgers.specs.declared.stage.Stage.TheVariants.{Between, Over, Passing, Reading}
+use Rattle.told_ledgers.specs.declared.chain_line.ChainLine.{ChainLine}
+use Rattle.told_ledgers.specs.Chains.{chain_line_said, is_chain_line, with_chain_line}
+use Rattle.told_ledgers.specs.Headings.{heading_said}
 use Rattle.told_ledgers.specs.SoFar.{LedgerSoFar}
 use Rattle.told_ledgers.specs.Words.{line_kind}
 use Rattle.told_ledgers.specs.Ledger.{line_heard, nothing_read, whole_told_ledger, untold}
-use Rattle.told_ledgers.specs.Telling.{Telling, begun_at_heading, frame_told, with_heard, heading_said, line_told_at_stage, line_told, next_number, unless_bad_line, one_less, passing, reading_ledger}
+use Rattle.told_ledgers.specs.Telling.{Telling, begun_at_heading, chain_told, frame_told, with_chain, with_heard, line_told_at_stage, line_told, next_number, unless_bad_line, one_less, passing, reading_ledger}
 use Rattle.told_ledgers.specs.Telling.{told_book, further_lines_told}
 use Rattle.told_ledgers.specs.Inside.{AreLegal}
 
@@ -72,14 +75,27 @@ begun_deal h s = by (touches s.deal s.me h.arc)
     by true = reading_deal (nothing_read at.deal at.me h.arc) at
     by false = refl
 
-frame_deal : (s : Telling) (line : List ℕ) → KeepsDeal s (frame_told s line)
-unfolding frame_told
-frame_deal s line = by (bytes_eq line (codes "end")) (heading_said s.least (length s.deal.graph.arcs) line)
+chain_deal : (l : ChainLine) (s : Telling) → KeepsDeal s (with_chain s l)
+chain_deal l s = by (with_chain_line l (get_or s.ledgers l.arc untold))
   where
-    by : (t : Bool) (r : Result Heading Misspelling) → KeepsDeal s (cond t (Ok (record s { stage = Over })) (r >>= λ h. Ok (begun_at_heading h s)))
-    by true r = refl
-    by false (Ok h) = begun_deal h s
-    by false (Err e) = tt
+    by : (r : Result ToldLedger Misspelling)
+        → KeepsDeal s (r >>= λ t. Ok (record s { ledgers = slice_set s.ledgers l.arc t; least = length s.deal.graph.arcs }))
+    by (Ok t) = refl
+    by (Err e) = tt
+
+frame_deal : (s : Telling) (line : List ℕ) → KeepsDeal s (frame_told s line)
+unfolding frame_told chain_told
+frame_deal s line =
+    by (bytes_eq line (codes "end")) (is_chain_line (separated_parts 32 line)) (chain_line_said (length s.deal.graph.arcs) line)
+    (heading_said s.least (length s.deal.graph.arcs) line)
+  where
+    by : (t u : Bool) (q : Result ChainLine Misspelling) (r : Result Heading Misspelling)
+        → KeepsDeal s (cond t (Ok (record s { stage = Over })) (cond u (q >>= with_chain s) (r >>= λ h. Ok (begun_at_heading h s))))
+    by true u q r = refl
+    by false true (Ok l) r = chain_deal l s
+    by false true (Err e) r = tt
+    by false false q (Ok h) = begun_deal h s
+    by false false q (Err e) = tt
 
 line_deal : (g : Stage) (s : Telling) (line : List ℕ) → KeepsDeal s (line_told_at_stage g s line)
 line_deal Between s line = frame_deal s line
@@ -138,3 +154,14 @@ book_is_legal d ts count all =
       one_each = long ∙ count;
       legal = λ a lt. subst (IsLegal d a) (sym (told_history ts a)) (all a (subst (λ z. a < z) long lt));
     }
+
+-- with what is told of a chain
+pub legal_with : (d : Deal) (ts : List ToldLedger) (a : ℕ) (t : ToldLedger) → a < length ts → t.history ≡ (get_or ts a untold).history → AreLegal d ts
+    → AreLegal d (set ts a t)
+legal_with d ts a t lt same all = legal_set d ts a t lt (subst (IsLegal d a) (sym same) (all a lt)) all
+
+-- an item of a list, whatever stands for none
+pub item_is : (ts : List ToldLedger) (a : ℕ) (x : ToldLedger) → a < length ts → x ≡ get_or ts a x → x ≡ get_or ts a untold
+item_is [] a x lt e = absurd (omega arith)
+item_is (t ∷ ts) zero x lt e = e
+item_is (t ∷ ts) (suc a) x lt e = item_is ts a x (omega arith) e

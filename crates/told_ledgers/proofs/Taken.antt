@@ -1,6 +1,6 @@
 -- A line that the ledger at hand takes.
 use Rattle.std.proofs.Common.{◌≡◌, ◌-◌, ℕ, Bool, true, false, List, Result, Ok, Err, sym, ap, ◌∙◌, subst}
-use Rattle.std.specs.Prelude.{IfOk}
+use Rattle.std.specs.Prelude.{IfOk, OnOk}
 use Rattle.told_ledgers.specs.declared.kind.Kind.{Kind}
 use Rattle.told_ledgers.specs.declared.one_ledger.Heard.{Heard}
 use Rattle.told_ledgers.specs.declared.one_ledger.Heard.TheVariants.{More}
@@ -45,3 +45,8 @@ finished kind line l old mid new t f =
     f t.next (ap (λ (s : Telling). s.stage) t.reads)
     ∙ ap (λ (s : Telling). reading_ledger t.next (one_less s)) t.reads
     ∙ ap (λ (h : Heard). with_heard l.arc h (one_less old)) (sym (t.heard (old.count - old.more)))
+
+-- what follows where a call is Ok
+pub on_ok_then : {T E P Q : Type 0} (r : Result T E) → (P → Q) → OnOk r P → OnOk r Q
+on_ok_then (Ok x) f p = f p
+on_ok_then (Err e) f p = tt

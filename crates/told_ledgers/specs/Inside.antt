@@ -1,14 +1,8 @@
 -- What readers of ledgers keep.
-use Rattle.std.specs.Prelude.{◌≡◌, ◌<◌, ◌+◌, ◌-◌, ◌++◌, ◌∷◌, [], ℕ, List, length, decimal, slice_index_or}
+use Rattle.std.specs.Prelude.{◌≡◌, ◌<◌, ◌≤◌, ◌+◌, ◌-◌, ℕ, List, length, decimal, slice_index_or}
 use Rattle.swap_digraph.specs.declared.deal.Deal.{Deal}
 use Rattle.swap_digraph.specs.Deal.{IsWellSized}
-use Rattle.escrow_core.specs.declared.reply.Reply.TheVariants.{Accepted}
-use Rattle.ledger_core.specs.declared.entry.Sender.TheVariants.{Clock}
-use Rattle.ledger_core.specs.declared.entry.What.TheVariants.{Tick}
-use Rattle.ledger_core.specs.History.{IsLegal, height, reply_to_tick}
-use Rattle.ledger_core.specs.Ledger.{tick_entry}
-use Rattle.transcript_book.specs.Between.{spaced}
-use Rattle.transcript_book.specs.Words.{entry_words}
+use Rattle.ledger_core.specs.History.{IsLegal, height}
 use Rattle.told_ledgers.specs.declared.kind.Kind.{Kind}
 use Rattle.told_ledgers.specs.declared.told_ledger.ToldLedger.{ToldLedger}
 use Rattle.told_ledgers.specs.declared.one_ledger.Heard.{Heard}
@@ -29,28 +23,22 @@ ledger_so_far l = record {
   me = l.me;
   arc = l.ledger.arc;
   past = l.past.list;
+  waiting = l.waiting;
   unlocks = l.unlocks;
   is_closed = l.is_closed;
 }
 
--- What was taken is what was replayed, and is legal.
+-- What was taken is what was replayed, and is legal; its height with that of the ticks isn't above
+-- the most.
 pub record IsReplayedLedger (l : one_ledger.Inside) : Type 0 where
   pub replayed : l.ledger.history ≡ l.past.list
   pub legal : IsLegal l.ledger.deal l.ledger.arc l.past.list
+  pub low : height l.past.list + l.waiting ≤ 1000000
 
 -- what is told of a ledger with a bad entry is legal
 abbrev pub IsLegalHeard : Deal → ℕ → Heard → Type 0
 IsLegalHeard d a (More l) = Unit {0}
 IsLegalHeard d a (Bad t) = IsLegal d a t.history
-
--- the line of a tick by k
-abbrev pub tick_line : ℕ → List ℕ
-tick_line k = spaced (entry_words Clock (Tick k) Accepted)
-
--- the ledger takes a tick by k
-pub record HasTakenTick (k : ℕ) (old new : LedgerSoFar) : Type 0 where
-  pub accepted : Accepted ≡ reply_to_tick old.past k
-  pub ticked : new ≡ record old { past = old.past ++ tick_entry k (height old.past + k) Accepted ∷ [] }
 
 -- ---- all ledgers
 

@@ -11,7 +11,9 @@ pub record LedgerSoFar : Type 0 where
   pub arc : ℕ
   -- the entries that were taken
   pub past : List Entry
-  -- those of them that are the party's unlocks
+  -- by how many heights it ticked behind them
+  pub waiting : ℕ
+  -- the party's unlocks that can be read, refused ones too
   pub unlocks : List OwnUnlock
   -- a wrong publish was accepted: the calls of others are passed over
   pub is_closed : Bool

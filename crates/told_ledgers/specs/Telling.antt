@@ -1,6 +1,6 @@
 -- The lines from the first ledger's line to the last line: which line stands next, and what comes
 -- of all of them.
-use Rattle.std.specs.Prelude.{◌&&◌, ◌==◌, ◌+◌, ◌-◌, ◌^◌, ℕ, nat_le, nat_lt, List, [], ◌∷◌, map, codes, length, min, replicate, slice_set}
+use Rattle.std.specs.Prelude.{◌==◌, ◌+◌, ◌-◌, ◌^◌, ℕ, List, [], ◌∷◌, map, codes, length, min, replicate, slice_index_or, slice_set}
 use Rattle.std.specs.Prelude.{Result, Ok, Err, if◌then◌else◌}
 use Rattle.std.specs.Str.{bytes_eq}
 use Rattle.swap_base.specs.Fault.{◌>>=◌}
@@ -11,35 +11,19 @@ use Rattle.command_input.specs.declared.reason.Reason.{Reason}
 use Rattle.command_input.specs.declared.reason.Reason.TheVariants.{BadLine, CutShort}
 use Rattle.transcript_book.specs.declared.said.Misspelling.{Misspelling}
 use Rattle.transcript_book.specs.Between.{separated_parts}
-use Rattle.transcript_book.specs.Reading.{parse_first_field, misspelt, nothing_more, bounded_number, decimal_number}
-use Rattle.transcript_book.specs.Counts.{ledger_word}
+use Rattle.transcript_book.specs.Reading.{misspelt}
 use Rattle.told_ledgers.specs.declared.told_ledger.ToldLedger.{ToldLedger}
 use Rattle.told_ledgers.specs.declared.one_ledger.Heard.{Heard}
 use Rattle.told_ledgers.specs.declared.one_ledger.Heard.TheVariants.{More, Bad}
 use Rattle.told_ledgers.specs.declared.stage.Stage.{Stage}
 use Rattle.told_ledgers.specs.declared.stage.Stage.TheVariants.{Between, Passing, Reading, Over}
 use Rattle.told_ledgers.specs.declared.heading.Heading.{Heading}
+use Rattle.told_ledgers.specs.declared.chain_line.ChainLine.{ChainLine}
+use Rattle.told_ledgers.specs.Headings.{heading_said}
+use Rattle.told_ledgers.specs.Chains.{chain_line_said, is_chain_line, with_chain_line}
 use Rattle.told_ledgers.specs.SoFar.{LedgerSoFar}
 use Rattle.told_ledgers.specs.Words.{line_kind}
 use Rattle.told_ledgers.specs.Ledger.{line_heard, nothing_read, whole_told_ledger, untold}
-
--- ---- the line before those of a ledger
-
--- the number of an arc, at least `least` and below the number of arcs
-abbrev pub arc_said : (least arcs : ℕ) → List ℕ → Result ℕ Misspelling
-arc_said least arcs w = decimal_number w >>= λ a. if nat_le least a && nat_lt a arcs then Ok a else misspelt
-
-unfoldable pub heading_words : (least arcs : ℕ) → List (List ℕ) → Result Heading Misspelling
-heading_words least arcs ws = do
-  word ← parse_first_field ledger_word ws
-  arc ← parse_first_field (arc_said least arcs) word.1
-  count ← parse_first_field (bounded_number (2 ^ 32)) arc.1
-  u ← nothing_more count.1
-  Ok (record { arc = arc.0; count = count.0 })
-
--- the arc and the number of lines that a line before those of a ledger tells
-unfoldable pub heading_said : (least arcs : ℕ) → List ℕ → Result Heading Misspelling
-heading_said least arcs line = heading_words least arcs (separated_parts 32 line)
 
 -- ---- which line stands next
 
@@ -95,10 +79,19 @@ abbrev pub with_heard : ℕ → Heard → Telling → Telling
 with_heard a (More l) s = reading_ledger l s
 with_heard a (Bad t) s = passing (record s { ledgers = slice_set s.ledgers a t })
 
--- the line between two ledgers, or the last line
+-- what is told of a chain; behind it no ledger stands
+abbrev pub with_chain : Telling → ChainLine → Result Telling Misspelling
+with_chain s l =
+    with_chain_line l (slice_index_or s.ledgers l.arc untold) >>= λ t. Ok (record s { ledgers = slice_set s.ledgers l.arc t; least = length s.deal.graph.arcs })
+
+unfoldable pub chain_told : Telling → List ℕ → Result Telling Misspelling
+chain_told s line = chain_line_said (length s.deal.graph.arcs) line >>= with_chain s
+
+-- the line between two ledgers or behind them, or the last line
 unfoldable pub frame_told : Telling → List ℕ → Result Telling Misspelling
 frame_told s line =
     if bytes_eq line (codes "end") then Ok (record s { stage = Over })
+    else if is_chain_line (separated_parts 32 line) then chain_told s line
     else (heading_said s.least (length s.deal.graph.arcs) line >>= λ h. Ok (begun_at_heading h s))
 
 -- a line of the ledger

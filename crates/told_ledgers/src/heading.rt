@@ -4,7 +4,7 @@ ghost use Rattle.std.specs.Prelude.{◌<◌, ◌≤◌, IfOk};
 ghost use Rattle.swap_base.specs.Fault.{Gives};
 ghost use Rattle.transcript_book.specs.Reading.{parse_first_field};
 ghost use Rattle.transcript_book.specs.Taking.{Takes};
-ghost use Rattle.told_ledgers.specs.Telling.{arc_said, heading_said, heading_words};
+ghost use Rattle.told_ledgers.specs.Headings.{arc_said, heading_said, heading_words};
 
 use swap_base::ArcId;
 use transcript_book::{
@@ -33,7 +33,7 @@ fn arc_said(least: u64, arcs: u64, word: &[u8]) -> Result<ArcId, WordFault>
 }
 
 #[tactic(auto, unfolding(transcript_book::specs::Reading::parse_first_field))]
-fn arc_field(least: u64, arcs: u64, fields: &mut Parts<'_>) -> Result<ArcId, WordFault>
+pub(crate) fn arc_field(least: u64, arcs: u64, fields: &mut Parts<'_>) -> Result<ArcId, WordFault>
     requires { arcs ≤ 128 }
     ensures exact { Takes (λ a. a) result fields.new (parse_first_field (arc_said least arcs) fields.old) }
     ensures below { IfOk result (λ a. a < arcs) }
@@ -41,7 +41,7 @@ fn arc_field(least: u64, arcs: u64, fields: &mut Parts<'_>) -> Result<ArcId, Wor
     arc_said(least, arcs, word(fields)?)
 }
 
-#[tactic(auto, unfolding(crate::specs::Telling::heading_words))]
+#[tactic(auto, unfolding(crate::specs::Headings::heading_words))]
 fn heading_words(least: u64, arcs: u64, fields: &mut Parts<'_>) -> Result<Heading, WordFault>
     requires { arcs ≤ 128 }
     ensures exact { Gives (λ h. h) result (heading_words least arcs fields.old) }
@@ -55,7 +55,7 @@ fn heading_words(least: u64, arcs: u64, fields: &mut Parts<'_>) -> Result<Headin
 }
 
 /// What the line before those of a ledger tells, whose arc is at least one and below another.
-#[tactic(auto, unfolding(crate::specs::Telling::heading_said))]
+#[tactic(auto, unfolding(crate::specs::Headings::heading_said))]
 pub(crate) fn heading_said(least: u64, arcs: u64, line: &[u8]) -> Result<Heading, WordFault>
     requires { arcs ≤ 128 }
     ensures exact { Gives (λ h. h) result (heading_said least arcs line.now) }

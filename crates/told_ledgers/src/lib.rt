@@ -5,12 +5,14 @@
 //! the lines of one ledger make of it; and `specs/Telling.antt`: which line stands next.
 #![tactic(auto)]
 
+mod chain_line;
 mod heading;
 mod kind;
 mod one_ledger;
 mod reader;
 mod stage;
 mod telling;
+mod tick;
 mod told_ledger;
 
 pub use telling::read_ledgers;

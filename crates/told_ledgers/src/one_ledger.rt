@@ -1,17 +1,18 @@
 //! A ledger that is read: its entries, each replayed.
 
-ghost use Rattle.std.specs.Prelude.{◌≡◌, ◌<◌, ◌++◌, ◌≤◌, Ok, Err, Some, IfOk, IfSome, OnOk, false, length, true, ℕ};
+ghost use Rattle.std.specs.Prelude.{◌≡◌, ◌<◌, ◌++◌, ◌+◌, ◌-◌, Ok, Err, Some, IfOk, OnOk, false, length, true, ℕ};
 ghost use Rattle.swap_base.specs.Fault.{Gives};
 ghost use Rattle.swap_digraph.specs.Deal.{IsWellSized};
-ghost use Rattle.ledger_core.specs.History.{IsLegal};
+ghost use Rattle.ledger_core.specs.History.{height, IsLegal};
 ghost use Rattle.ledger_core.specs.WellFormed.{IsFormedEntry};
 ghost use Rattle.swap_rules.specs.Party.{pick_call};
-ghost use Rattle.told_ledgers.specs.Inside.{IsLegalHeard, HasTakenTick, tick_line};
-ghost use Rattle.told_ledgers.specs.Ledger.{is_correct_publish, is_first_publish, is_passed, line_heard, kind_line_read, nothing_read, own_unlock, publishes_terms, whole_told_ledger};
-ghost use Rattle.told_ledgers.specs.Ledger.{stated_entry, with_stated};
+ghost use Rattle.told_ledgers.specs.Inside.{IsLegalHeard};
+ghost use Rattle.told_ledgers.specs.Ledger.{is_accepted_line, is_correct_publish, is_first_accepted, is_passed, is_refused, line_heard, kind_line_read, nothing_read, own_unlock};
+ghost use Rattle.told_ledgers.specs.Ledger.{publishes_terms, stated_entry, ticked, whole_told_ledger, with_refused, with_stated, with_tick, with_tick_or_entry};
 ghost use Rattle.told_ledgers.specs.declared.one_ledger.Heard.TheVariants.{More};
 
 use crate::kind::Kind;
+use crate::tick::line_tick;
 use crate::told_ledger::{BadEntry, OwnUnlock, Replies, ToldLedger};
 use escrow_core::{Reply, stated_terms};
 use ledger_core::{Call, Entry, EntryList, Ledger, LedgerHistory, Sender, What};
@@ -20,7 +21,7 @@ use std::marker::Model;
 use swap_auditor::{Found, replay_entry};
 use swap_base::{ArcId, Fault, Listed, NoMemory, PartyId, Shared, TryCopy};
 use swap_digraph::Deal;
-use transcript_book::{Known, Misspelling, WordFault, parse_entry, read_bounded, with_known};
+use transcript_book::{Known, Misspelling, WordFault, parse_entry, with_known};
 
 /// A ledger that is read, as far as its lines were.
 #[derive(Drop)]
@@ -28,6 +29,8 @@ pub struct OneLedger {
     me: PartyId,
     ledger: Ledger,
     past: LedgerHistory,
+    /// By how many heights the ledger ticked behind these entries.
+    waiting: u32,
     unlocks: Listed<OwnUnlock>,
     is_closed: bool,
 }
@@ -59,10 +62,25 @@ fn is_passed(is_closed: bool, kind: Kind) -> bool
 {
     match kind {
         Kind::Read => false,
+        Kind::Refused => false,
         Kind::Noise => true,
         Kind::Publish => is_closed,
         Kind::Accepted => is_closed,
     }
+}
+
+/// Whether the line is that of a call of the party that was refused, and that it may make again.
+fn is_refused(kind: Kind) -> bool
+    ensures { result ≡ is_refused kind }
+{
+    matches!(kind, Kind::Refused)
+}
+
+/// Whether the line is that of an accepted call of somebody else, no transfer.
+fn is_accepted_line(kind: Kind) -> bool
+    ensures { result ≡ is_accepted_line kind }
+{
+    matches!(kind, Kind::Publish | Kind::Accepted)
 }
 
 /// Whether the call publishes the correct terms of the arc.
@@ -140,19 +158,8 @@ fn make_room(past: &mut LedgerHistory) -> Result<(), NoMemory>
     past.reserve()
 }
 
-/// By how many heights the line ticks, if it is that of a tick.
-#[tactic(auto, using(crate::proofs::Ticks::digits_are))]
-fn line_tick(line: &[u8]) -> Option<u32>
-    ensures line { IfSome result (λ k. line.now ≡ tick_line k) }
-    ensures some { IfSome result (λ k. 1 ≤ k) }
-    ensures below { IfSome result (λ k. k ≤ 1000000) }
-{
-    let digits = line.strip_prefix(b"t ".as_slice())?;
-    match read_bounded(1_000_001, digits) {
-        Ok(k) if k > 0 => Some(k as u32),
-        _ => None,
-    }
-}
+/// The most height of a ledger.
+const MOST_HEIGHT: u32 = 1_000_000;
 
 impl OneLedger {
     /// No line was read yet.
@@ -170,6 +177,7 @@ impl OneLedger {
             me,
             ledger: Ledger::new(alloc, deal, arc)?,
             past: LedgerHistory::new(alloc),
+            waiting: 0,
             unlocks: Listed::empty(alloc),
             is_closed: false,
         })
@@ -181,44 +189,65 @@ impl OneLedger {
         self.ledger.arc()
     }
 
-    /// All that was told, where no line was bad.
-    pub(crate) fn into_told(self) -> ToldLedger
-        ensures exact { result ≡ whole_told_ledger self }
-        ensures legal { IsLegal self.deal self.arc result.history }
+    /// Takes the ticks that were read as one entry.
+    fn settle_ticks(&mut self) -> Result<(), NoMemory>
+        ensures { OnOk result (self.new ≡ ticked self.old) }
     {
-        ToldLedger {
-            history: EntryList::from_history(self.past),
-            bad: None,
-            unlocks: self.unlocks,
+        if self.waiting == 0 {
+            return Ok(());
         }
+        make_room(&mut self.past)?;
+        self.ledger.reserve()?;
+        let by = self.waiting;
+        let height = self.ledger.height() + by;
+        if self.ledger.tick(by) != Reply::ClockFull {
+            self.past.tick(by, height);
+        }
+        self.waiting = 0;
+        Ok(())
     }
 
-    /// A wrong publish was accepted.
-    fn into_closed(self) -> OneLedger
+    /// What was told, with the bad entry, if there is one.
+    fn into_told_with(mut self, bad: Option<BadEntry>) -> Result<ToldLedger, NoMemory>
+        ensures exact { IfOk result (λ t. t ≡ record (whole_told_ledger self) { bad = bad }) }
+        ensures legal { IfOk result (λ t. IsLegal self.deal self.arc t.history) }
+    {
+        self.settle_ticks()?;
+        Ok(ToldLedger {
+            history: EntryList::from_history(self.past),
+            bad,
+            unlocks: self.unlocks,
+            tip: None,
+            margin: None,
+        })
+    }
+
+    /// All that was told, where no line was bad.
+    pub(crate) fn into_told(self) -> Result<ToldLedger, NoMemory>
+        ensures exact { IfOk result (λ t. t ≡ whole_told_ledger self) }
+        ensures legal { IfOk result (λ t. IsLegal self.deal self.arc t.history) }
+    {
+        self.into_told_with(None)
+    }
+
+    /// An odd contract began.
+    fn into_closed(mut self) -> OneLedger
         ensures { result ≡ record self { is_closed = true } }
     {
-        OneLedger {
-            me: self.me,
-            ledger: self.ledger,
-            past: self.past,
-            unlocks: self.unlocks,
-            is_closed: true,
-        }
+        self.is_closed = true;
+        self
     }
 
     /// The line of that number can't be read.
-    fn into_bad(self, number: u32) -> Heard
-        ensures exact { result ≡ with_stated number self (Err Misspelling.Misspelt) }
-        ensures legal { IsLegalHeard self.deal self.arc result }
+    fn into_bad(self, number: u32) -> Result<Heard, NoMemory>
+        ensures exact { IfOk result (λ h. h ≡ with_stated number self (Err Misspelling.Misspelt)) }
+        ensures legal { IfOk result (IsLegalHeard self.deal self.arc) }
     {
-        Heard::Bad(ToldLedger {
-            history: EntryList::from_history(self.past),
-            bad: Some(BadEntry {
-                entry: number,
-                replies: None,
-            }),
-            unlocks: self.unlocks,
-        })
+        let bad = BadEntry {
+            entry: number,
+            replies: None,
+        };
+        Ok(Heard::Bad(self.into_told_with(Some(bad))?))
     }
 
     /// The entry that a line states. A hashkey is held once, whichever ledgers it is told of.
@@ -232,17 +261,14 @@ impl OneLedger {
         Ok(with_known(known, entry)?)
     }
 
-    /// Whether a line of that kind tells the first accepted publish on an arc that enters the
-    /// party.
-    fn is_first_publish(&self, kind: Kind) -> bool
-        ensures { result ≡ is_first_publish self.now kind }
+    /// Whether nothing is published on an arc that enters the party, and a line of that kind tells
+    /// the first accepted call of a contract there.
+    fn is_first_accepted(&self, kind: Kind) -> bool
+        ensures { result ≡ is_first_accepted self.now kind }
     {
         let arc = self.ledger.arc();
         let ends = self.ledger.deal().graph.arcs()[arc as usize];
-        match kind {
-            Kind::Publish => self.me == ends.to && !self.ledger.is_published(),
-            _ => false,
-        }
+        is_accepted_line(kind) && self.me == ends.to && !self.ledger.is_published()
     }
 
     /// Whether the entry is the arc's publish, with the correct terms.
@@ -255,6 +281,7 @@ impl OneLedger {
     /// Replays the entry of the line of that number.
     fn into_replayed(self, found: &mut Found, number: u32, entry: Entry) -> Result<Heard, NoMemory>
         requires found { found.old ≡ self.deal }
+        requires settled { self.waiting ≡ 0 }
         requires formed { IsFormedEntry self.deal self.arc self.past entry }
         ensures exact { IfOk result (λ h. h ≡ with_stated number self (Ok entry)) }
         ensures legal { IfOk result (IsLegalHeard self.deal self.arc) }
@@ -264,6 +291,7 @@ impl OneLedger {
             me,
             mut ledger,
             mut past,
+            waiting,
             mut unlocks,
             is_closed,
         } = self;
@@ -276,6 +304,7 @@ impl OneLedger {
                     me,
                     ledger,
                     past,
+                    waiting,
                     unlocks,
                     is_closed,
                 }))
@@ -290,6 +319,8 @@ impl OneLedger {
                     }),
                 }),
                 unlocks,
+                tip: None,
+                margin: None,
             })),
             Err(Fault::NoMemory) => Err(NoMemory),
         }
@@ -305,12 +336,13 @@ impl OneLedger {
         entry: Entry,
     ) -> Result<Heard, NoMemory>
         requires found { found.old ≡ self.deal }
+        requires settled { self.waiting ≡ 0 }
         requires formed { IsFormedEntry self.deal self.arc self.past entry }
         ensures exact { IfOk result (λ h. h ≡ kind_line_read number self kind (Ok entry)) }
         ensures legal { IfOk result (IsLegalHeard self.deal self.arc) }
         ensures found { found.new ≡ found.old }
     {
-        if self.is_first_publish(kind) && !self.is_published(&entry) {
+        if self.is_first_accepted(kind) && !self.is_published(&entry) {
             Ok(Heard::More(self.into_closed()))
         } else {
             self.into_replayed(found, number, entry)
@@ -319,34 +351,36 @@ impl OneLedger {
 
     /// The line of that number and kind states no entry.
     #[tactic(auto, unfolding(crate::specs::Ledger::kind_line_read))]
-    fn into_unread(self, kind: Kind, number: u32) -> Heard
-        ensures exact { result ≡ kind_line_read number self kind (Err Misspelling.Misspelt) }
-        ensures legal { IsLegalHeard self.deal self.arc result }
+    fn into_unread(self, kind: Kind, number: u32) -> Result<Heard, NoMemory>
+        ensures exact { IfOk result (λ h. h ≡ kind_line_read number self kind (Err Misspelling.Misspelt)) }
+        ensures legal { IfOk result (IsLegalHeard self.deal self.arc) }
     {
-        if self.is_first_publish(kind) {
-            Heard::More(self.into_closed())
+        if self.is_first_accepted(kind) {
+            Ok(Heard::More(self.into_closed()))
         } else {
             self.into_bad(number)
         }
     }
 
-    /// Takes a tick in place. Where the ledger takes no more ticks, nothing changes.
-    #[tactic(auto, using(crate::proofs::Ticks::accepted_tick))]
-    fn take_tick(&mut self, k: u32) -> Result<bool, NoMemory>
-        requires some { 1 ≤ k }
-        requires below { k ≤ 1000000 }
-        ensures taken { IfOk result (λ t. t ≡ true → HasTakenTick k self.old self.new) }
-        ensures left { IfOk result (λ t. t ≡ false → self.new ≡ self.old) }
-        ensures kept { self.new ≡ record self.old { past = self.new.past } }
+    /// The heights up to the most height.
+    fn room(&self) -> u32
+        ensures { result ≡ 1000000 - height self.now.past }
     {
-        make_room(&mut self.past)?;
-        self.ledger.reserve()?;
-        let height = self.ledger.height() + k;
-        if self.ledger.tick(k) == Reply::ClockFull {
-            return Ok(false);
+        MOST_HEIGHT - self.ledger.height()
+    }
+
+    /// Takes a tick by k heights in place, where the ledger doesn't pass the most height.
+    #[tactic(auto, using(crate::proofs::Ticks::tick_fits))]
+    fn take_tick(&mut self, k: u64) -> bool
+        ensures taken { result ≡ true → (n : ℕ) → with_tick n self.old k ≡ More self.new }
+        ensures left { result ≡ false → (self.new ≡ self.old) × (1000000 < height self.old.past + self.old.waiting + k) }
+        ensures kept { self.new ≡ record self.old { waiting = self.new.waiting } }
+    {
+        if k > (self.room() - self.waiting) as u64 {
+            return false;
         }
-        self.past.tick(k, height);
-        Ok(true)
+        self.waiting += k as u32;
+        true
     }
 
     /// Takes the line of that kind in place, where it is passed over or is a tick. Whatever else it
@@ -354,14 +388,78 @@ impl OneLedger {
     pub(crate) fn take(&mut self, kind: Kind, line: &[u8]) -> Result<bool, NoMemory>
         ensures taken { IfOk result (λ t. t ≡ true → (n : ℕ) → line_heard n self.old kind line.now ≡ More self.new) }
         ensures left { IfOk result (λ t. t ≡ false → self.new ≡ self.old) }
-        ensures kept { self.new ≡ record self.old { past = self.new.past } }
+        ensures kept { self.new ≡ record self.old { waiting = self.new.waiting } }
     {
         if is_passed(self.is_closed, kind) {
             return Ok(true);
         }
-        match (kind, line_tick(line)) {
-            (Kind::Read, Some(k)) => self.take_tick(k),
-            _ => Ok(false),
+        if is_refused(kind) {
+            return Ok(false);
+        }
+        match line_tick(line) {
+            Ok(k) => Ok(self.take_tick(k)),
+            Err(Fault::Refused(_)) => Ok(false),
+            Err(Fault::NoMemory) => Err(NoMemory),
+        }
+    }
+
+    /// Reads a refused call of the party, in the line of that number.
+    fn into_refused(
+        mut self,
+        known: &mut Known,
+        number: u32,
+        line: &[u8],
+    ) -> Result<Heard, NoMemory>
+        ensures exact { IfOk result (λ h. h ≡ with_refused number self (stated_entry self line.now)) }
+        ensures legal { IfOk result (IsLegalHeard self.deal self.arc) }
+    {
+        match self.stated_entry(known, line) {
+            Ok(entry) => push_own(&mut self.unlocks, self.me, number, &entry)?,
+            Err(Fault::Refused(_)) => {}
+            Err(Fault::NoMemory) => return Err(NoMemory),
+        }
+        Ok(Heard::More(self))
+    }
+
+    /// Ticks by k heights, in the line of that number.
+    #[tactic(auto, using(crate::proofs::Ticks::tick_passes))]
+    fn into_ticked(mut self, number: u32, k: u64) -> Result<Heard, NoMemory>
+        ensures exact { IfOk result (λ h. h ≡ with_tick number self k) }
+        ensures legal { IfOk result (IsLegalHeard self.deal self.arc) }
+    {
+        if self.take_tick(k) {
+            return Ok(Heard::More(self));
+        }
+        self.waiting = self.room();
+        let bad = BadEntry {
+            entry: number,
+            replies: Some(Replies {
+                stated: Reply::Accepted,
+                replayed: Reply::ClockFull,
+            }),
+        };
+        Ok(Heard::Bad(self.into_told_with(Some(bad))?))
+    }
+
+    /// Reads the entry of the line of that number and kind, which is no tick.
+    fn into_called(
+        mut self,
+        found: &mut Found,
+        known: &mut Known,
+        kind: Kind,
+        number: u32,
+        line: &[u8],
+    ) -> Result<Heard, NoMemory>
+        requires found { found.old ≡ self.deal }
+        ensures exact { IfOk result (λ h. h ≡ kind_line_read number (ticked self) kind (stated_entry (ticked self) line.now)) }
+        ensures legal { IfOk result (IsLegalHeard self.deal self.arc) }
+        ensures found { found.new ≡ found.old }
+    {
+        self.settle_ticks()?;
+        match self.stated_entry(known, line) {
+            Ok(entry) => self.into_entered(found, kind, number, entry),
+            Err(Fault::Refused(Misspelling::Misspelt)) => self.into_unread(kind, number),
+            Err(Fault::NoMemory) => Err(NoMemory),
         }
     }
 
@@ -382,9 +480,12 @@ impl OneLedger {
         if is_passed(self.is_closed, kind) {
             return Ok(Heard::More(self));
         }
-        match self.stated_entry(known, line) {
-            Ok(entry) => self.into_entered(found, kind, number, entry),
-            Err(Fault::Refused(Misspelling::Misspelt)) => Ok(self.into_unread(kind, number)),
+        if is_refused(kind) {
+            return self.into_refused(known, number, line);
+        }
+        match line_tick(line) {
+            Ok(k) => self.into_ticked(number, k),
+            Err(Fault::Refused(_)) => self.into_called(found, known, kind, number, line),
             Err(Fault::NoMemory) => Err(NoMemory),
         }
     }

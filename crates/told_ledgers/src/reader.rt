@@ -9,8 +9,9 @@ ghost use Rattle.told_ledgers.specs.Inside.{IsHeardLedgerForParty, IsLegalHeard,
 ghost use Rattle.told_ledgers.specs.SoFar.{LedgerSoFar};
 ghost use Rattle.told_ledgers.specs.declared.stage.Stage.TheVariants.{Reading};
 ghost use Rattle.told_ledgers.specs.Ledger.{untold};
-ghost use Rattle.told_ledgers.specs.Telling.{all_told, begun_at_heading, frame_told, with_heard, ledger_told, line_told, nothing_told, one_less, passing, reading_ledger, told_book};
+ghost use Rattle.told_ledgers.specs.Telling.{all_told, begun_at_heading, chain_told, frame_told, with_heard, ledger_told, line_told, nothing_told, one_less, passing, reading_ledger, told_book};
 
+use crate::chain_line::{chain_line_said, is_chain_line, note_chain};
 use crate::heading::{Heading, heading_said};
 use crate::kind::{Kind, line_kind};
 use crate::one_ledger::{Heard, OneLedger};
@@ -75,6 +76,8 @@ fn none_told(alloc: Global, arcs: usize) -> Result<Vec<ToldLedger>, NoMemory>
             history: EntryList::empty(alloc),
             bad: None,
             unlocks: Listed::empty(alloc),
+            tip: None,
+            margin: None,
         })?;
     }
     Ok(ledgers)
@@ -115,17 +118,18 @@ impl LedgersReader {
     }
 
     /// Goes on with further lines of a ledger, if any is to come.
-    fn continue_ledger(&mut self, one: OneLedger)
+    fn continue_ledger(&mut self, one: OneLedger) -> Result<(), NoMemory>
         requires { IsLedgerForParty self.old.deal self.old.me one }
-        ensures { self.new ≡ reading_ledger one self.old }
+        ensures { OnOk result (self.new ≡ reading_ledger one self.old) }
     {
         if self.more == 0 {
             let arc = one.arc();
-            self.keep(arc, one.into_told());
+            self.keep(arc, one.into_told()?);
             self.stage = Stage::Between;
         } else {
             self.stage = Stage::Reading(one);
         }
+        Ok(())
     }
 
     /// Passes over further lines of a ledger, if any is to come.
@@ -150,14 +154,26 @@ impl LedgersReader {
         self.more = heading.count;
         if is_adjacent(&self.deal, heading.arc, self.me) {
             let one = OneLedger::new(self.alloc, &self.deal, self.me, heading.arc)?;
-            self.continue_ledger(one);
+            self.continue_ledger(one)
         } else {
             self.pass_more();
+            Ok(())
         }
+    }
+
+    /// Notes what a line behind the ledgers tells. Behind it no ledger stands.
+    #[tactic(auto, unfolding(crate::specs::Telling::chain_told))]
+    fn read_chain_line(&mut self, line: &[u8]) -> Result<(), WordFault>
+        ensures { Gives (λ _. self.new) result (chain_told self.old line.now) }
+    {
+        let arcs = self.deal.graph.arcs().len();
+        let told = chain_line_said(arcs as u64, line)?;
+        note_chain(&mut self.ledgers[told.arc as usize], told)?;
+        self.least = arcs as u8;
         Ok(())
     }
 
-    /// Reads the line between two ledgers, or the last line.
+    /// Reads the line between two ledgers or behind them, or the last line.
     #[tactic(auto, unfolding(crate::specs::Telling::frame_told))]
     fn read_frame(&mut self, line: &[u8]) -> Result<(), WordFault>
         ensures { Gives (λ _. self.new) result (frame_told self.old line.now) }
@@ -166,6 +182,9 @@ impl LedgersReader {
             self.stage = Stage::Over;
             return Ok(());
         }
+        if is_chain_line(line) {
+            return self.read_chain_line(line);
+        }
         let arcs = self.deal.graph.arcs().len() as u64;
         let heading = heading_said(self.least as u64, arcs, line)?;
         self.begin(heading)?;
@@ -173,31 +192,33 @@ impl LedgersReader {
     }
 
     /// Goes on by what a line of a ledger made of it.
-    fn apply_heard(&mut self, arc: ArcId, heard: Heard)
+    fn apply_heard(&mut self, arc: ArcId, heard: Heard) -> Result<(), NoMemory>
         requires arc { arc < length self.old.deal.graph.arcs }
         requires of { IsHeardLedgerForParty self.old.deal self.old.me heard }
         requires legal { IsLegalHeard self.old.deal arc heard }
-        ensures { self.new ≡ with_heard arc heard self.old }
+        ensures { OnOk result (self.new ≡ with_heard arc heard self.old) }
     {
         match heard {
             Heard::More(one) => self.continue_ledger(one),
             Heard::Bad(told) => {
                 self.keep(arc, told);
                 self.pass_more();
+                Ok(())
             }
         }
     }
 
     /// Goes on behind a line that the ledger at hand took.
-    fn finish_line(&mut self)
-        ensures { (l : LedgerSoFar) → self.old.stage ≡ Reading l → self.new ≡ reading_ledger l (one_less self.old) }
+    fn finish_line(&mut self) -> Result<(), NoMemory>
+        ensures { OnOk result ((l : LedgerSoFar) → self.old.stage ≡ Reading l → self.new ≡ reading_ledger l (one_less self.old)) }
     {
         self.more = self.more.saturating_sub(1);
         if self.more == 0 {
             if let Stage::Reading(one) = mem::replace(&mut self.stage, Stage::Between) {
-                self.continue_ledger(one);
+                return self.continue_ledger(one);
             }
         }
+        Ok(())
     }
 
     /// Has the ledger at hand take a line of that kind in place, where it can.
@@ -220,7 +241,7 @@ impl LedgersReader {
             let number = self.count.saturating_sub(self.more);
             let heard = one.into_heard(&mut self.found, &mut self.known, kind, number, line)?;
             self.more = self.more.saturating_sub(1);
-            self.apply_heard(arc, heard);
+            self.apply_heard(arc, heard)?;
         }
         Ok(())
     }
@@ -231,8 +252,7 @@ impl LedgersReader {
     {
         let kind = line_kind(self.own.as_slice(), line);
         if self.take(kind, line)? {
-            self.finish_line();
-            Ok(())
+            self.finish_line()
         } else {
             self.read_moved(kind, line)
         }

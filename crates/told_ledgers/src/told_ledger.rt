@@ -35,6 +35,10 @@ pub struct ToldLedger {
     /// What was taken of it, up to its bad entry.
     pub history: EntryList,
     pub bad: Option<BadEntry>,
-    /// The party's unlocks in the history, in its order.
+    /// The party's unlocks that can be read, refused ones too, in the order of its lines.
     pub unlocks: Listed<OwnUnlock>,
+    /// The height of its chain's tip, if it is told.
+    pub tip: Option<u32>,
+    /// In how many heights a call lands, if it is told.
+    pub margin: Option<u32>,
 }

@@ -10,12 +10,15 @@ use Rattle.ledger_core.specs.declared.entry.Call.{Call}
 use Rattle.ledger_core.specs.declared.entry.Call.TheVariants.{Publish, Unlock, Claim, Refund, Transfer}
 use Rattle.swap_rules.specs.Conduct.{is_publish}
 use Rattle.swap_rules.specs.Due.{Wallet, Action, first}
+use Rattle.swap_rules.specs.Counted.{all_counted}
 use Rattle.swap_rules.specs.Useful.{useful, IsHarmful}
+use Rattle.swap_rules.proofs.Cases.{first_in}
 use Rattle.swap_rules.proofs.Useful.{useful_is_due, only_harm_is_left_out}
-use Rattle.wallet_promise.specs.Life.{Asking, Answer, Rest, Make, Keep, kept_note, make_if, is_kept, action_answer, MayGo, MayKeep}
-use Rattle.wallet_promise.specs.Answers.{was_sent, is_asked, once, unsent, answers, AllMayGo, AllMayBeKept, NoneIsSentTwice, NothingIsLeftOut}
-use Rattle.wallet_promise.specs.Answers.{EachKeyIsAsked, AllIsUseful, RestIsNothing}
-use Rattle.wallet_promise.proofs.Keys.{made_of, kept_state}
+use Rattle.wallet_promise.specs.Life.{Asking, Answer, Rest, Make, Keep, is_kept, kept_note, make_if, action_answer}
+use Rattle.wallet_promise.specs.Answers.{was_sent, is_asked, once, unsent, action_answers}
+use Rattle.wallet_promise.specs.Answers.{answers, MayGo, MayKeep, AnswersMayGo, AnswersMayBeKept}
+use Rattle.wallet_promise.specs.Answers.{AllMayGo, AllMayBeKept, NoneIsSentTwice, NothingIsLeftOut, EachKeyIsAsked, AllIsUseful, RestIsNothing}
+use Rattle.wallet_promise.proofs.Keys.{made_of, kept_state, keep_first}
 
 -- Lists.
 
@@ -100,10 +103,10 @@ asks_once asked (Keep head ∷ xs) key none (inr i) =
 abbrev each : (ℕ → Option Hashkey) → (ℕ → Bool) → List Action → List Answer
 each kept sent xs = map (λ x. action_answer kept (Some x)) (unsent sent xs)
 
-from_answers : (d : Deal) (v : ℕ) (w : Wallet) (q : Asking) (sent : ℕ → Bool) (y : Answer) → IsElement y (answers d v w q sent)
-    → (x : Action) × IsElement x (useful d v w q.kept q.known) × (was_sent sent x ≡ false) × (action_answer q.kept (Some x) ≡ y)
-from_answers d v w q sent y i =
-    let xs = useful d v w q.kept q.known in
+from_answers : (d : Deal) (v : ℕ) (at : ℕ → ℕ) (w : Wallet) (q : Asking) (sent : ℕ → Bool) (y : Answer) → IsElement y (answers d v at w q sent)
+    → (x : Action) × IsElement x (useful d v at w q.kept (all_counted v q.known)) × (was_sent sent x ≡ false) × (action_answer q.kept (Some x) ≡ y)
+from_answers d v at w q sent y i =
+    let xs = useful d v at w q.kept (all_counted v q.known) in
     let m = from_map (λ x. action_answer q.kept (Some x)) (unsent sent xs) y (from_once None (each q.kept sent xs) y i) in
     let f = from_filter (λ x. not (was_sent sent x)) m.0 xs m.1 in
     (m.0, f.0, not-true (was_sent sent m.0) f.1, m.2)
@@ -112,24 +115,24 @@ some_same : (x y : Action) → Some x ≡ Some y → x ≡ y
 some_same x y e = cc e
 
 pub all_may_go : AllMayGo
-all_may_go d v w q sent x i =
-    let f = from_answers d v w q sent (Make x) i in
+all_may_go d v at w q sent x i =
+    let f = from_answers d v at w q sent (Make x) i in
     let m = made_of q.kept (Some f.0) x f.3 in
-    record { is_due = useful_is_due d v w q.kept q.known x (subst (λ y. IsElement y (useful d v w q.kept q.known)) (some_same f.0 x m.0) f.1); was_kept = m.1 }
+    record { is_due = useful_is_due d v at w q.kept (all_counted v q.known) x (subst (λ y. IsElement y (useful d v at w q.kept (all_counted v q.known))) (some_same f.0 x m.0) f.1); was_kept = m.1 }
 
 pub all_is_useful : AllIsUseful
-all_is_useful d v w q sent x i =
-    let f = from_answers d v w q sent (Make x) i in
-    subst (λ y. IsElement y (useful d v w q.kept q.known)) (some_same f.0 x (made_of q.kept (Some f.0) x f.3).0) f.1
+all_is_useful d v at w q sent x i =
+    let f = from_answers d v at w q sent (Make x) i in
+    subst (λ y. IsElement y (useful d v at w q.kept (all_counted v q.known))) (some_same f.0 x (made_of q.kept (Some f.0) x f.3).0) f.1
 
 pub all_may_be_kept : AllMayBeKept
-all_may_be_kept d v w q sent key i =
-    let f = from_answers d v w q sent (Keep key) i in
-    record { unlock = f.0; is_due = useful_is_due d v w q.kept q.known f.0 f.1; asks = f.3 }
+all_may_be_kept d v at w q sent key i =
+    let f = from_answers d v at w q sent (Keep key) i in
+    record { unlock = f.0; is_due = useful_is_due d v at w q.kept (all_counted v q.known) f.0 f.1; asks = f.3 }
 
 pub none_is_sent_twice : NoneIsSentTwice
-none_is_sent_twice d v w q sent x i =
-    let f = from_answers d v w q sent (Make x) i in
+none_is_sent_twice d v at w q sent x i =
+    let f = from_answers d v at w q sent (Make x) i in
     subst (λ y. was_sent sent y ≡ false) (some_same f.0 x (made_of q.kept (Some f.0) x f.3).0) f.2
 
 to_each : (kept : ℕ → Option Hashkey) (sent : ℕ → Bool) (xs : List Action) (x : Action) (y : Answer) → IsElement x xs → was_sent sent x ≡ false
@@ -139,22 +142,22 @@ to_each kept sent xs x y i s e =
     subst (λ z. IsElement z (each kept sent xs)) e (in_map (λ z. action_answer kept (Some z)) (unsent sent xs) x f)
 
 pub nothing_is_left_out : NothingIsLeftOut
-nothing_is_left_out d v w q sent x may s = go (only_harm_is_left_out d v w q.kept q.known x may.is_due)
+nothing_is_left_out d v at w q sent x may s = go (only_harm_is_left_out d v at w q.kept (all_counted v q.known) x may.is_due)
   where
-    go : IsElement x (useful d v w q.kept q.known) ⊎ IsHarmful d v w q.kept q.known x
-        → IsElement (Make x) (answers d v w q sent) ⊎ IsHarmful d v w q.kept q.known x
+    go : IsElement x (useful d v at w q.kept (all_counted v q.known)) ⊎ IsHarmful d v at w q.kept (all_counted v q.known) x
+        → IsElement (Make x) (answers d v at w q sent) ⊎ IsHarmful d v at w q.kept (all_counted v q.known) x
     go (inl i) =
-        let xs = useful d v w q.kept q.known in
+        let xs = useful d v at w q.kept (all_counted v q.known) in
         inl (make_once None (each q.kept sent xs) x (to_each q.kept sent xs x (Make x) i s (ap (λ b. make_if b x) (MayGo.was_kept may))))
     go (inr harm) = inr harm
 
 pub each_key_is_asked : EachKeyIsAsked
-each_key_is_asked d v w q sent key may = go (only_harm_is_left_out d v w q.kept q.known may.unlock may.is_due)
+each_key_is_asked d v at w q sent key may = go (only_harm_is_left_out d v at w q.kept (all_counted v q.known) may.unlock may.is_due)
   where
-    go : IsElement (MayKeep.unlock may) (useful d v w q.kept q.known) ⊎ IsHarmful d v w q.kept q.known (MayKeep.unlock may)
-        → AsksFor key.lock (answers d v w q sent) ⊎ IsHarmful d v w q.kept q.known (MayKeep.unlock may)
+    go : IsElement (MayKeep.unlock may) (useful d v at w q.kept (all_counted v q.known)) ⊎ IsHarmful d v at w q.kept (all_counted v q.known) (MayKeep.unlock may)
+        → AsksFor key.lock (answers d v at w q sent) ⊎ IsHarmful d v at w q.kept (all_counted v q.known) (MayKeep.unlock may)
     go (inl i) =
-        let xs = useful d v w q.kept q.known in
+        let xs = useful d v at w q.kept (all_counted v q.known) in
         let unlock = (kept_state q.kept (MayKeep.unlock may) key (MayKeep.asks may)).0 in
         let s : was_sent sent (MayKeep.unlock may) ≡ false =
         ap (λ (c : Call). is_publish (Some c) && sent (Action.arc (MayKeep.unlock may))) unlock in
@@ -174,4 +177,19 @@ only_nothing kept [] e = refl
 only_nothing kept (x ∷ xs) e = absurd (never_rest kept x.call x (is_kept kept x.call) refl refl e)
 
 pub rest_is_nothing : RestIsNothing
-rest_is_nothing d v w q sent = (only_nothing q.kept (useful d v w q.kept q.known), λ e. ap (λ xs. action_answer q.kept (first xs)) e)
+rest_is_nothing d v at w q sent = (
+  only_nothing q.kept (useful d v at w q.kept (all_counted v q.known)),
+  λ e. (ap (λ xs. action_answer q.kept (first xs)) e, ap (action_answers q.kept sent) e),
+)
+
+pub answers_may_go : AnswersMayGo
+answers_may_go d v at w q x e =
+    let xs = useful d v at w q.kept (all_counted v q.known) in
+    let m = made_of q.kept (first xs) x e in
+    record { is_due = useful_is_due d v at w q.kept (all_counted v q.known) x (first_in xs x m.0); was_kept = m.1 }
+
+pub answers_may_be_kept : AnswersMayBeKept
+answers_may_be_kept d v at w q key e =
+    let xs = useful d v at w q.kept (all_counted v q.known) in
+    let m = keep_first q.kept (first xs) key e in
+    record { unlock = m.0; is_due = useful_is_due d v at w q.kept (all_counted v q.known) m.0 (first_in xs m.0 m.1); asks = m.2 }

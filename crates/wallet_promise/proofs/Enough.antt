@@ -1,5 +1,5 @@
 -- What is due over books that say enough.
-use Rattle.std.proofs.Common.{◌≡◌, ℕ, ◌+◌, ◌==◌, nat_le, nat_lt, Bool, true, false, cond, not, ◌&&◌, ◌||◌, List, [], ◌∷◌, ◌++◌, length, count_by, Option, Some}
+use Rattle.std.proofs.Common.{◌≡◌, ℕ, ◌==◌, nat_le, nat_lt, Bool, true, false, cond, not, ◌&&◌, ◌||◌, List, [], ◌∷◌, ◌++◌, length, count_by, Option, Some}
 use Rattle.std.proofs.Common.{map, filter, None, is_some, is_none, refl, sym, ap, ap₂, ◌∙◌, ◌⊎◌, inl, inr}
 use Rattle.std.specs.List.{list_any, list_all, flat_map}
 use Rattle.std.proofs.lemmas.Bool.{false≢true}
@@ -10,7 +10,7 @@ use Rattle.swap_digraph.specs.declared.deal.Deal.{Deal}
 use Rattle.swap_digraph.specs.Graph.{leaving, entering}
 use Rattle.swap_digraph.specs.Deal.{locks, leads}
 use Rattle.hashkey_path.specs.declared.hashkey.Hashkey.{Hashkey}
-use Rattle.escrow_core.specs.Terms.{stated_terms, refund_expiry}
+use Rattle.escrow_core.specs.Terms.{stated_terms, refund_expiry, last_unlock}
 use Rattle.escrow_core.specs.Table.{are_open}
 use Rattle.ledger_core.specs.declared.entry.Call.{Call}
 use Rattle.ledger_core.specs.declared.entry.Call.TheVariants.{Publish, Claim, Refund}
@@ -26,11 +26,12 @@ use Rattle.swap_rules.specs.Due.{presented, may_unlock, due_arc_unlock, is_due_c
 use Rattle.swap_rules.specs.Due.{due_refunds, due}
 use Rattle.swap_rules.specs.Rest.{is_waiting, least_number, rest_deadline}
 use Rattle.swap_rules.specs.Outcome.{outcome, is_got, is_claim, got, lost}
-use Rattle.swap_rules.specs.Walking.{is_withheld, pressing_unlocks, pressing}
-use Rattle.swap_rules.specs.Useful.{opens_in_time, useful_publishes, useful_unlocks, useful}
+use Rattle.swap_rules.specs.Useful.{is_past, is_missed, has_missed}
+use Rattle.swap_rules.specs.Useful.{opens_in_time, accepts, takes, has_lost, is_withheld, timely_unlock, pressing_unlocks, pressing, useful_publishes}
+use Rattle.swap_rules.specs.Useful.{useful_unlocks, useful}
 use Rattle.swap_rules.proofs.Growth.{ready_good}
 use Rattle.wallet_promise.specs.WithoutNoise.{SaysTheSame, AreUseless, SayEnough}
-use Rattle.wallet_promise.proofs.Filters.{any_each, filter-same, map-same, all-same, greatest-same, count-same, flat-same, first-same}
+use Rattle.wallet_promise.proofs.Filters.{any_each, filter-same, map-same, all-same, greatest-same, count-same, flat-same, first-same, any-same}
 
 -- no answer is one that no test passes
 
@@ -236,47 +237,80 @@ module _ (d : Deal) (v : ℕ) (k h : Histories) (s : SayEnough d v k h) where
   no_choice true xs e = refl
   no_choice false xs e = e
 
-  abbrev open_until : ℕ
-  open_until = times.opening_deadline d.start d.delta d.bound + d.delta
+  either : (b : Bool) (xs : List Action) → xs ≡ [] → cond b xs [] ≡ []
+  either true xs e = e
+  either false xs e = refl
 
-  same_withheld : is_ready d h v ≡ true → (i : ℕ) → is_withheld d v k i ≡ is_withheld d v h i
-  same_withheld r i =
-      ap₂ (λ x y. leads d v i && x && not y) (same_presented i)
-      (all-same (λ a. nat_le (height (history k a)) open_until) (λ a. nat_le (height (history h a)) open_until) (entering d.graph v)
-      (λ a j. ap (λ n. nat_le n open_until) (good_says a (ready_good d h v a r j)).height))
+  module _ (at : ℕ → ℕ) where
+    untimely : (b : Histories) → is_ready d b v ≡ false → (w : Wallet) (o : Option Hashkey) (i : ℕ) (xs : List ℕ)
+        → flat_map (timely_unlock d v at w o b i) xs ≡ []
+    unfolding due_arc_unlock
+    untimely b n w o i [] = refl
+    untimely b n w o i (a ∷ xs) =
+        ap₂ (λ p q. p ++ q) (either (takes d at b i (due_key d v w o b i) a) (due_arc_unlock d v w o b i a)
+        (ap (λ r. cond (r && not (has_called v (unlocks_lock i) (history b a))) (presented a (due_key d v w o b i)) []) n)) (untimely b n w o i xs)
 
-  same_pressing_unlocks : (w : Wallet) (signed : ℕ → Option Hashkey) (i : ℕ) → pressing_unlocks d v w signed k i ≡ pressing_unlocks d v w signed h i
-  same_pressing_unlocks w signed i = go (is_ready d h v) refl
-    where
-      go : (r : Bool) → is_ready d h v ≡ r → pressing_unlocks d v w signed k i ≡ pressing_unlocks d v w signed h i
-      go true r =
-          ap₂ (λ (x : Bool) (f : ℕ → List Action). cond x [] (flat_map f (entering d.graph v))) (same_withheld r i) (λ j a. same_unlock_on w (signed i) i a j)
-      go false r =
-          no_choice (is_withheld d v k i) (flat_map (due_arc_unlock d v w (signed i) k i) (entering d.graph v))
-          (unready k (same_ready ∙ r) w (signed i) i (entering d.graph v))
-          ∙ sym (no_choice (is_withheld d v h i) (flat_map (due_arc_unlock d v w (signed i) h i) (entering d.graph v))
-          (unready h r w (signed i) i (entering d.graph v)))
+    same_has_lost : has_lost d k v ≡ has_lost d h v
+    same_has_lost = any-same (is_triggered d k) (is_triggered d h) (leaving d.graph v) (λ a i. same_trigger a (leaving_same a i))
 
-  -- all that presses over the one book presses over the other
-  pub same_pressing : (w : Wallet) (signed : ℕ → Option Hashkey) → pressing d v w signed k ≡ pressing d v w signed h
-  unfolding pressing
-  same_pressing w signed =
-      ap₂ (λ (f : ℕ → List Action) (x : List Action). flat_map f (locks d) ++ x ++ due_refunds d v k) (λ j i. same_pressing_unlocks w signed i j) same_claims
-      ∙ ap (λ x. flat_map (pressing_unlocks d v w signed h) (locks d) ++ due_claims d v h ++ x) same_refunds
+    module _ (r : is_ready d h v ≡ true) where
+      says : (a : ℕ) → IsElement a (entering d.graph v) → SaysTheSame v (history k a) (history h a)
+      says a j = good_says a (ready_good d h v a r j)
 
-  -- What is useful.
+      same_accepts : (o : Option Hashkey) (a : ℕ) → IsElement a (entering d.graph v) → accepts d at k o a ≡ accepts d at h o a
+      same_accepts None a j = refl
+      same_accepts (Some key) a j = ap (λ z. is_none z && nat_le (at a) (last_unlock d.mode (stated_terms d a) key)) (says a j).settled
 
-  same_useful_publishes : useful_publishes d v k ≡ useful_publishes d v h
-  same_useful_publishes =
-      flat-same (λ a. when_due (is_due_publish d v k a && opens_in_time d k a) a (Publish (stated_terms d a)))
-      (λ a. when_due (is_due_publish d v h a && opens_in_time d h a) a (Publish (stated_terms d a))) (leaving d.graph v)
-      (λ a i. ap₂ (λ x n. when_due (x && nat_le n (times.opening_deadline d.start d.delta d.bound)) a (Publish (stated_terms d a)))
-      (same_due_publish a) (leaving_same a i).height)
+      same_takes : (i : ℕ) (o : Option Hashkey) (a : ℕ) → IsElement a (entering d.graph v) → takes d at k i o a ≡ takes d at h i o a
+      same_takes i o a j = ap₂ (λ x y. is_some x || y) ((says a j).opened i) (same_accepts o a j)
 
-  -- all that is useful over the one book is useful over the other
-  pub same_useful : (w : Wallet) (signed : ℕ → Option Hashkey) → useful d v w signed k ≡ useful d v w signed h
-  unfolding useful
-  same_useful w signed =
-      ap₂ (λ (x : List Action) (f : ℕ → List Action). x ++ flat_map f (locks d) ++ due_claims d v k ++ due_refunds d v k) same_useful_publishes
-      (λ j i. same_pressing_unlocks w signed i j)
-      ∙ ap₂ (λ x y. useful_publishes d v h ++ useful_unlocks d v w signed h ++ x ++ y) same_claims same_refunds
+      same_missed : (signed : ℕ → Option Hashkey) → has_missed d v signed k ≡ has_missed d v signed h
+      same_missed signed =
+          any-same (λ a. list_any (is_missed d k signed a) (locks d)) (λ a. list_any (is_missed d h signed a) (locks d)) (entering d.graph v)
+          (λ a j. any-same (is_missed d k signed a) (is_missed d h signed a) (locks d) (λ l i.
+          ap₂ (λ x n. not (is_some x) && is_past d a (signed l) n) ((says a j).opened l) (says a j).height))
+
+      same_withheld : (signed : ℕ → Option Hashkey) (i : ℕ) (o : Option Hashkey) → is_withheld d v at signed k i o ≡ is_withheld d v at signed h i o
+      same_withheld signed i o =
+          ap₂ (λ x y. x && not y && (has_missed d v signed k || not (list_all (takes d at k i o) (entering d.graph v)))) (same_presented i) same_has_lost
+          ∙ ap₂ (λ m y. is_none (first_key h v i) && not (has_lost d h v) && (m || not y)) (same_missed signed)
+          (all-same (takes d at k i o) (takes d at h i o) (entering d.graph v) (λ a j. same_takes i o a j))
+
+      same_timely : (w : Wallet) (o : Option Hashkey) (i : ℕ)
+          → flat_map (timely_unlock d v at w o k i) (entering d.graph v) ≡ flat_map (timely_unlock d v at w o h i) (entering d.graph v)
+      same_timely w o i =
+          flat-same (timely_unlock d v at w o k i) (timely_unlock d v at w o h i) (entering d.graph v) (λ a j.
+          ap (λ z. cond (takes d at k i z a) (due_arc_unlock d v w o k i a) []) (same_due_key o w i)
+          ∙ ap₂ (λ x y. cond x y []) (same_takes i (due_key d v w o h i) a j) (same_unlock_on w o i a))
+
+    same_pressing_unlocks : (w : Wallet) (signed : ℕ → Option Hashkey) (i : ℕ) → pressing_unlocks d v at w signed k i ≡ pressing_unlocks d v at w signed h i
+    same_pressing_unlocks w signed i = go (is_ready d h v) refl
+      where
+        go : (r : Bool) → is_ready d h v ≡ r → pressing_unlocks d v at w signed k i ≡ pressing_unlocks d v at w signed h i
+        go true r =
+            ap (λ o. cond (is_withheld d v at signed k i o) [] (flat_map (timely_unlock d v at w (signed i) k i) (entering d.graph v))) (same_due_key (signed i) w i)
+            ∙ ap₂ (λ x y. cond x [] y) (same_withheld r signed i (due_key d v w (signed i) h i)) (same_timely r w (signed i) i)
+        go false r =
+            no_choice (is_withheld d v at signed k i (due_key d v w (signed i) k i)) (flat_map (timely_unlock d v at w (signed i) k i) (entering d.graph v))
+            (untimely k (same_ready ∙ r) w (signed i) i (entering d.graph v))
+            ∙ sym (no_choice (is_withheld d v at signed h i (due_key d v w (signed i) h i)) (flat_map (timely_unlock d v at w (signed i) h i) (entering d.graph v))
+            (untimely h r w (signed i) i (entering d.graph v)))
+
+    pub same_pressing : (w : Wallet) (signed : ℕ → Option Hashkey) → pressing d v at w signed k ≡ pressing d v at w signed h
+    unfolding pressing
+    same_pressing w signed =
+        ap₂ (λ (f : ℕ → List Action) (x : List Action). flat_map f (locks d) ++ x ++ due_refunds d v k) (λ j i. same_pressing_unlocks w signed i j) same_claims
+        ∙ ap (λ x. flat_map (pressing_unlocks d v at w signed h) (locks d) ++ due_claims d v h ++ x) same_refunds
+
+    same_useful_publishes : useful_publishes d v at k ≡ useful_publishes d v at h
+    same_useful_publishes =
+        flat-same (λ a. when_due (is_due_publish d v k a && opens_in_time d at a) a (Publish (stated_terms d a)))
+        (λ a. when_due (is_due_publish d v h a && opens_in_time d at a) a (Publish (stated_terms d a))) (leaving d.graph v)
+        (λ a i. ap (λ x. when_due (x && opens_in_time d at a) a (Publish (stated_terms d a))) (same_due_publish a))
+
+    pub same_useful : (w : Wallet) (signed : ℕ → Option Hashkey) → useful d v at w signed k ≡ useful d v at w signed h
+    unfolding useful
+    same_useful w signed =
+        ap₂ (λ (x : List Action) (f : ℕ → List Action). x ++ flat_map f (locks d) ++ due_claims d v k ++ due_refunds d v k) same_useful_publishes
+        (λ j i. same_pressing_unlocks w signed i j)
+        ∙ ap₂ (λ x y. useful_publishes d v at h ++ useful_unlocks d v at w signed h ++ x ++ y) same_claims same_refunds

@@ -20,3 +20,12 @@ pub mod Living
 pub mod Onward
 pub mod Walking
 pub mod Lives
+pub mod Early
+pub mod Able
+pub mod Timely
+pub mod Landing
+pub mod Again
+pub mod Noise
+pub mod LegalCounted
+pub mod Mindful
+pub mod ToldMindful

@@ -4,7 +4,7 @@ use Rattle.std.proofs.Common.{refl, sym, ap, ap₂, ◌∙◌, subst, inl, inr}
 use Rattle.std.proofs.lemmas.Bool.{false≢true}
 use Rattle.std.proofs.lemmas.List.Elements.{filter-append}
 use Rattle.swap_base.specs.Lists.{IsElement, IsMoment}
-use Rattle.swap_base.proofs.Lists.{in_map, and_parts, and_both, from_filter, moment_from_in}
+use Rattle.swap_base.proofs.Lists.{in_map, and_parts, and_both, moment_from_in}
 use Rattle.time_bounds.specs.Times as times
 use Rattle.swap_digraph.specs.declared.deal.Deal.{Deal}
 use Rattle.swap_digraph.specs.Graph.{leaving, entering, is_listed}
@@ -17,16 +17,16 @@ use Rattle.ledger_core.specs.declared.facts.Settlement.TheVariants.{Claimed, Ref
 use Rattle.ledger_core.specs.History.{height, published, settled, balance}
 use Rattle.ledger_core.specs.Book.{Histories, history, IsLegalBook}
 use Rattle.ledger_core.proofs.History.{claimed_done, of_claim, triggered-past, not-true}
-use Rattle.swap_rules.specs.declared.finding.Rule.TheVariants.{Unlock as OfUnlock}
 use Rattle.swap_rules.specs.Accepted.{IsAccepted}
 use Rattle.swap_rules.specs.Party.{is_correct, publication_height, is_ready, is_triggered, pick_call}
 use Rattle.swap_rules.specs.Conduct.{is_publish, IsConducted}
-use Rattle.swap_rules.specs.Outcome.{is_claim, IsEnded}
+use Rattle.swap_rules.specs.Outcome.{is_claim}
 use Rattle.swap_rules.specs.Due.{Wallet, Action, due, has_called, unlocks_lock, is_claiming, is_due_claim, first}
-use Rattle.swap_rules.specs.Machine.{Begins, Knows, IsWallet}
+use Rattle.swap_rules.specs.Machine.{Begins, IsWallet}
 use Rattle.swap_rules.specs.Laws.{IsOnTime, IsSafe, HasRefunds}
-use Rattle.swap_rules.specs.Walking.{HasLost, IsWatchful, pressing}
+use Rattle.swap_rules.specs.Walking.{IsWatchful}
 use Rattle.swap_rules.specs.Useful.{useful}
+use Rattle.swap_rules.specs.Counted.{all_counted}
 use Rattle.swap_rules.proofs.Cases.{Case, ToPublish, ToUnlock, ToClaim, ToRefund, case_of}
 use Rattle.swap_rules.proofs.Growth.{is_correct-more, ready_good}
 use Rattle.swap_rules.proofs.Prefixes.{begins_refl, list_any-none}
@@ -34,7 +34,6 @@ use Rattle.swap_rules.proofs.Words.{and_three, leaves}
 use Rattle.wallet_promise.specs.WithoutNoise.{telling, tellings, is_useless, is_needed, parts, needs, all_needed, SaysTheSame, SayEnough, IsChain, IsNeededBook}
 use Rattle.wallet_promise.specs.WithoutNoise.{is_transfer, MakesNoTransfer}
 use Rattle.wallet_promise.specs.BookLaws.{KeepsLedgerLimits, HoldsAsTold}
-use Rattle.wallet_promise.proofs.Filters.{any-same}
 use Rattle.wallet_promise.proofs.Telling.{history_is}
 use Rattle.wallet_promise.proofs.Needed.{part_is, all_told, useless, same_called, same_height, says_enough, needed_says_enough}
 use Rattle.wallet_promise.proofs.Enough as enough
@@ -43,22 +42,22 @@ use Rattle.wallet_promise.proofs.Holding.{needed_holds_as_told}
 use Rattle.wallet_promise.proofs.Merged.{says_refl}
 use Rattle.wallet_promise.proofs.Ticks.{needed_legal}
 use Rattle.wallet_promise.proofs.Funds.{balances_are_told}
-use Rattle.wallet_promise.specs.Life.{Asking, nothing_kept, action_answer, MayGo, MayKeep, IsKeepingStep, IsJournal, IsLife, HasRested, HasActedOnTime, HasFinished}
-use Rattle.wallet_promise.specs.Life.{IsMindful}
+use Rattle.wallet_promise.specs.Life.{Asking, nothing_kept, action_answer, MayGo, MayKeep, IsKeepingStep, IsJournal, IsLife, HasRested}
+use Rattle.wallet_promise.specs.Life.{HaveNearEnded}
 use Rattle.wallet_promise.specs.Answers.{action_answers}
 use Rattle.wallet_promise.proofs.Living.{life_conducts, life_is_safe, attentive_is_safe}
-use Rattle.wallet_promise.proofs.Walking.{watchful_life_is_safe, mindful_is_safe}
-use Rattle.wallet_promise.specs.ToldLife.{Hearing, whole_asking, as_needed, IsToldAnswered, IsToldLife, CameToRest, IsToldAttentive, HadActedOnTime, HadFinished, IsToldMindful}
+use Rattle.wallet_promise.proofs.Walking.{watchful_life_is_safe}
+use Rattle.wallet_promise.specs.ToldLife.{Hearing, whole_asking, as_needed, IsToldAnswered, IsToldLife, CameToRest, IsToldAttentive}
 use Rattle.wallet_promise.specs.ToldLaws.{AnswersAreTold, BeginningsAreHeard, ToldLifeIsLife, ToldLifeIsToldLife, ToldLifeIsNeededLife, NothingIsGiven}
 use Rattle.wallet_promise.specs.ToldLaws.{NothingIsCalledThere, IsWithinLimits, ToldIsLegal, ToldLifeConducts, ToldLifeIsSafe, ToldAttentiveIsSafe}
-use Rattle.wallet_promise.specs.ToldLaws.{ToldWatchfulIsSafe, ToldMindfulIsSafe}
+use Rattle.wallet_promise.specs.ToldLaws.{ToldWatchfulIsSafe}
 
 -- Answers.
 
 pub answers_are_told : AnswersAreTold
-answers_are_told d v w q r sent s k =
-    let same : useful d v w q.kept q.known ≡ useful d v w r.kept r.known =
-    enough.same_useful d v q.known r.known s w q.kept ∙ ap (λ f. useful d v w f r.known) k in
+answers_are_told d v at w q r sent s k =
+    let same : useful d v at w q.kept (all_counted v q.known) ≡ useful d v at w r.kept (all_counted v r.known) =
+    enough.same_useful d v (all_counted v q.known) (all_counted v r.known) s at w q.kept ∙ ap (λ f. useful d v at w f (all_counted v r.known)) k in
     (ap₂ (λ f x. action_answer f (first x)) k same, ap₂ (λ f x. action_answers f sent x) k same)
 
 pub beginnings_are_heard : BeginningsAreHeard
@@ -316,9 +315,12 @@ module _ (d : Deal) (v : ℕ) (w : Wallet) (b : Histories) (hs : List Hearing) (
     from_told : IsSafe d c v → IsSafe d b v
     from_told s = record { safe = λ f q. s.safe (holds.unforged.1 f) (holds.same_outcome ∙ q); refunds = refunds s.refunds }
 
-    pub safe : IsEnded d b → IsOnTime d b v → IsSafe d b v
+    near_ended : HaveNearEnded d b v → HaveNearEnded d c v
+    near_ended e a n = subst (λ z. times.horizon d.start d.delta d.bound < z) (sym (heights b a)) (e a n)
+
+    pub safe : HaveNearEnded d b v → IsOnTime d b v → IsSafe d b v
     safe e t =
-        from_told (life_is_safe d v w c (map (as_needed d v b) hs) kept acc legal wallet needed_life (holds.ended.1 e)
+        from_told (life_is_safe d v w c (map (as_needed d v b) hs) kept acc legal wallet needed_life (near_ended e)
         (λ rule a i j. holds.late rule a ∙ t rule a i j))
 
     pub watchful_safe : IsWatchful d b v → IsSafe d b v
@@ -334,68 +336,15 @@ module _ (d : Deal) (v : ℕ) (w : Wallet) (b : Histories) (hs : List Hearing) (
       soon = λ a. subst (λ z. z ≤ by) (sym (heights r.hearing.behind a)) (r.soon a);
     }
 
-    pub attentive : IsToldAttentive d v w b hs → IsOnTime d b v × (IsEnded d b → IsSafe d b v)
+    pub attentive : IsToldAttentive d v w b hs → IsOnTime d b v × (HaveNearEnded d b v → IsSafe d b v)
     attentive t =
         let k =
         attentive_is_safe d v w c (map (as_needed d v b) hs) kept acc legal wallet needed_life
         (λ rule a ref i j e l. rested ref (ref + d.delta) (t rule a ref i j (sym (holds.refs rule a) ∙ e)
         (subst (λ n. ref + d.delta < n) (heights b a) l))) in (
           λ rule a i j. sym (holds.late rule a) ∙ k.0 rule a i j,
-          λ e. from_told (k.1 (holds.ended.1 e)),
+          λ e. from_told (k.1 (near_ended e)),
         )
-
-    -- A mindful wallet.
-
-    same_presses : (h : Hearing) → IsElement h hs → (signed : ℕ → Option Hashkey)
-        → pressing d v w signed (tell h.behind) ≡ pressing d v w signed h.asking.known
-    same_presses h i signed =
-        enough.same_pressing d v (tell h.behind) h.behind (says_behind h i) w signed
-        ∙ sym (enough.same_pressing d v h.asking.known h.behind (life.told h i).says w signed)
-
-    seen_to : (at by : ℕ) → HadActedOnTime d v w hs at by → HasActedOnTime d v w (map (as_needed d v b) hs) at by
-    seen_to at by r = record {
-      asking = as_needed d v b r.hearing;
-      asked = in_map (as_needed d v b) hs r.hearing r.heard;
-      done = same_presses r.hearing r.heard r.hearing.asking.kept ∙ r.done;
-      past = λ a n. subst (λ z. at < z) (sym (heights r.hearing.behind a)) (r.past a n);
-      soon = λ a. subst (λ z. z ≤ by) (sym (heights r.hearing.behind a)) (r.soon a);
-    }
-
-    knows_part : (p : Entry → Bool) (k h : List Entry) → Knows v k h → Knows v (filter p k) (filter p h)
-    knows_part p k h n = record {
-      rest = filter p n.rest;
-      whole = ap (filter p) n.whole ∙ filter-append p k n.rest;
-      others = λ e i. n.others e (from_filter p e n.rest i).0;
-    }
-
-    finished : HadFinished d v w b hs → HasFinished d v w c (map (as_needed d v b) hs)
-    finished r = record {
-      asking = as_needed d v b r.hearing;
-      asked = in_map (as_needed d v b) hs r.hearing r.heard;
-      done = same_presses r.hearing r.heard r.hearing.asking.kept ∙ r.done;
-      past = λ a n. subst (λ z. times.last_expiry d.start d.delta d.bound < z) (sym (heights r.hearing.behind a)) (r.past a n);
-      all =
-          λ a. subst (λ z. Knows v z (history c a)) (sym (part_is (needs d v b) r.hearing.behind a))
-          (subst (λ z. Knows v (filter (needs d v b a) (history r.hearing.behind a)) z) (sym (part_is (needs d v b) b a))
-          (knows_part (needs d v b a) (history r.hearing.behind a) (history b a) (r.all a)));
-    }
-
-    same_stake : HasLost d c v → HasLost d b v
-    same_stake s = sym (any-same (is_triggered d c) (is_triggered d b) (leaving d.graph v) trigger_leaving) ∙ s
-
-    is_mindful : IsToldMindful d v w b hs → IsMindful d v w c (map (as_needed d v b) hs)
-    is_mindful t = record {
-      unlocks =
-          λ s i a ref l j e n. seen_to ref (ref + d.delta) (t.unlocks (same_stake s) i a ref l j (sym (holds.refs (OfUnlock i) a) ∙ e)
-          (subst (λ z. ref + d.delta < z) (heights b a) n));
-      finished = finished t.finished;
-    }
-
-    pub mindful : IsToldMindful d v w b hs → IsEnded d b → IsWatchful d b v × IsSafe d b v
-    mindful t e =
-        let k =
-        mindful_is_safe d v w c (map (as_needed d v b) hs) kept acc legal wallet needed_life (is_mindful t) (holds.ended.1 e) in
-        (holds.watchful.0 k.0, from_told k.1)
 
 pub is_needed_life : ToldLifeIsNeededLife
 is_needed_life d v w b hs kept life = needed_life d v w b hs kept life
@@ -421,6 +370,3 @@ told_attentive_is_safe d v w b hs kept acc book limits wallet life = attentive d
 
 pub told_watchful_is_safe : ToldWatchfulIsSafe
 told_watchful_is_safe d v w b hs kept acc book limits wallet life = watchful_safe d v w b hs kept life acc book limits wallet
-
-pub told_mindful_is_safe : ToldMindfulIsSafe
-told_mindful_is_safe d v w b hs kept acc book limits wallet life = mindful d v w b hs kept life acc book limits wallet

@@ -4,7 +4,7 @@ use Rattle.std.proofs.Common.{length, Option, Some, None, is_some, is_none, refl
 use Rattle.std.specs.List.{flat_map}
 use Rattle.std.proofs.lemmas.Bool.{false≢true}
 use Rattle.std.proofs.lemmas.List.Sums.{sum_by-append, sum_by-cons}
-use Rattle.swap_base.specs.Lists.{first_given_answer, IsElement, moments, IsMoment}
+use Rattle.swap_base.specs.Lists.{IsElement, moments, IsMoment}
 use Rattle.swap_base.proofs.Lists.{first_at, first_given_answer-front, all_moments_front, list_all-from, and_parts, and_both, in_flat_map}
 use Rattle.swap_base.proofs.Lists.{in_append, in_range}
 use Rattle.swap_base.proofs.Lists.{in_from_moment, moment_from_in, from_whole, at_moment, all_from_list_all}
@@ -12,7 +12,7 @@ use Rattle.swap_digraph.specs.declared.deal.Deal.{Deal}
 use Rattle.swap_digraph.specs.Graph.{leaving, entering}
 use Rattle.swap_digraph.specs.Deal.{lock_hashlock, locks}
 use Rattle.hashkey_path.specs.declared.hashkey.Hashkey.{Hashkey}
-use Rattle.hashkey_path.specs.Hashkey.{same_key, is_valid}
+use Rattle.hashkey_path.specs.Hashkey.{is_valid}
 use Rattle.escrow_core.specs.Terms.{stated_terms, same_terms}
 use Rattle.ledger_core.specs.declared.entry.Call.{Call}
 use Rattle.ledger_core.specs.declared.entry.Call.TheVariants.{Publish, Unlock, Claim, Refund, Transfer}
@@ -23,7 +23,7 @@ use Rattle.ledger_core.proofs.History.{published_done, of_publish, not-true-of}
 use Rattle.swap_rules.specs.Accepted.{IsAccepted}
 use Rattle.swap_rules.specs.Party.{has_expired, is_correct, is_ready, is_triggered, leads_one, pick_call, unlock_hashkey, first_key}
 use Rattle.swap_rules.specs.Conduct.{is_publish, is_first_key, keeps, keeps_entry, IsConducted}
-use Rattle.swap_rules.specs.Due.{Wallet, has_called, unlocks_lock, is_claiming, is_due_publish, may_unlock, is_due_claim, is_due_refund, due, first}
+use Rattle.swap_rules.specs.Due.{Wallet, has_called, unlocks_lock, is_claiming, is_due_publish, may_unlock, is_due_claim, is_due_refund, due}
 use Rattle.swap_rules.specs.Due.{is_refunding, due_arc_unlock, due_key, presented, due_unlocks, due_publishes, due_claims, due_refunds}
 use Rattle.swap_rules.specs.declared.finding.Rule.{Rule}
 use Rattle.swap_rules.specs.declared.finding.Rule.TheVariants.{Publish as OfPublish, Unlock as OfUnlock, Claim as OfClaim, Refund as OfRefund}
@@ -33,7 +33,7 @@ use Rattle.swap_rules.proofs.Room.{rules_leave_room}
 use Rattle.swap_rules.proofs.Rounds.{Informed, informed_done, nothing_due}
 use Rattle.swap_rules.specs.Laws.{IsOnTime}
 use Rattle.swap_rules.proofs.Accepted.{times_law}
-use Rattle.swap_rules.proofs.Cases.{Case, ToPublish, ToUnlock, ToClaim, ToRefund, case_of, first_in}
+use Rattle.swap_rules.proofs.Cases.{Case, ToPublish, ToUnlock, ToClaim, ToRefund, case_of}
 use Rattle.swap_rules.proofs.Conducting.{from_moments, below_of, count_single, first_signed}
 use Rattle.swap_rules.proofs.Due.{knows_call}
 use Rattle.swap_rules.proofs.DueKeys.{OwnTerms, key_rule}
@@ -42,14 +42,12 @@ use Rattle.swap_rules.proofs.Growth.{Grows, triggered-more, is_published-more, c
 use Rattle.swap_rules.proofs.Prefixes.{begins_height, in_any, moment_more}
 use Rattle.swap_rules.proofs.Refunds.{every_book_is_safe}
 use Rattle.swap_rules.proofs.Words.{act_of, pick_call-act, key_parts, same_key-refl, same_key-true, same_terms-refl, and_three, and_five, leaves}
-use Rattle.swap_rules.specs.Useful.{useful}
-use Rattle.swap_rules.proofs.Useful.{useful_is_due}
 use Rattle.wallet_promise.specs.Life.{Asking, nothing_kept, is_kept, IsTold, IsAnswered, IsLife, MayKeep, MayGo}
 use Rattle.wallet_promise.specs.Life.{HasRested}
-use Rattle.wallet_promise.specs.Laws.{LifeConducts, LifeIsSafe, OneHashkey, AskedIsNotKept, NothingIsLost, AnswersMayGo, AnswersMayBeKept, ToldIsOnce}
+use Rattle.wallet_promise.specs.Laws.{LifeConducts, LifeIsSafe, OneHashkey, AskedIsNotKept, NothingIsLost, ToldIsOnce}
 use Rattle.wallet_promise.specs.Laws.{TwiceIsBroken, TwoKeysAreBroken, KeptMayGo}
 use Rattle.wallet_promise.specs.Laws.{LifeLeavesRoom, PatienceLeavesRoom, AttentiveIsSafe, LedgersHoldKeys}
-use Rattle.wallet_promise.proofs.Keys.{Keeps, made_of, of_unlock_due, is_new, journal_keeps, keep_first, kept_state}
+use Rattle.wallet_promise.proofs.Keys.{Keeps, of_unlock_due, is_new, journal_keeps, kept_state}
 
 -- What each call of a life keeps, whenever it lands and however often.
 
@@ -306,7 +304,8 @@ life_conducts d v w b askings kept acc legal wallet life = conducts d v w b aski
 
 pub life_is_safe : LifeIsSafe
 life_is_safe d v w b askings kept acc legal wallet life ended on_time =
-    every_book_is_safe d b v acc legal ended (life_conducts d v w b askings kept acc legal wallet life) on_time
+    every_book_is_safe d b v acc legal (λ a i. ended a (inr i)) (λ a i. ended a (inl i))
+    (life_conducts d v w b askings kept acc legal wallet life) on_time
 
 pub life_leaves_room : LifeLeavesRoom
 life_leaves_room d v w b askings kept acc legal wallet life first_one a =
@@ -318,7 +317,10 @@ patience_leaves_room d v w b askings kept acc legal wallet life patient a =
     let i = patient a past e c m k in patient_first d v w b askings kept acc legal wallet life a past c i.0 i.1 r h) a
 
 pub attentive_is_safe : AttentiveIsSafe
-attentive_is_safe d v w b askings kept acc legal wallet life attends = (on_time, λ ended. every_book_is_safe d b v acc legal ended conducted on_time)
+attentive_is_safe d v w b askings kept acc legal wallet life attends = (
+  on_time,
+  λ ended. every_book_is_safe d b v acc legal (λ a i. ended a (inr i)) (λ a i. ended a (inl i)) conducted on_time,
+)
   where
     conducted : IsConducted d b v
     conducted = life_conducts d v w b askings kept acc legal wallet life
@@ -368,16 +370,6 @@ kept_may_go d v w b askings kept acc legal wallet life q key i k = goes d v w b 
 
 pub nothing_is_lost : NothingIsLost
 nothing_is_lost d v w b askings kept acc legal wallet life q i key j e = last_one d v w b askings kept acc legal wallet life q i key j e
-
-pub answers_may_go : AnswersMayGo
-answers_may_go d v w q x e =
-    let m = made_of q.kept (first (useful d v w q.kept q.known)) x e in
-    record { is_due = useful_is_due d v w q.kept q.known x (first_in (useful d v w q.kept q.known) x m.0); was_kept = m.1 }
-
-pub answers_may_be_kept : AnswersMayBeKept
-answers_may_be_kept d v w q key e =
-    let m = keep_first q.kept (first (useful d v w q.kept q.known)) key e in
-    record { unlock = m.0; is_due = useful_is_due d v w q.kept q.known m.0 (first_in (useful d v w q.kept q.known) m.0 m.1); asks = m.2 }
 
 pub told_is_once : ToldIsOnce
 unfolding is_due_publish

@@ -15,7 +15,7 @@ use Rattle.ledger_core.specs.declared.entry.Sender.TheVariants.{Party, Clock}
 use Rattle.ledger_core.specs.declared.entry.What.{What}
 use Rattle.ledger_core.specs.declared.entry.What.TheVariants.{Call as Made, Tick}
 use Rattle.ledger_core.specs.declared.entry.Entry.{Entry}
-use Rattle.ledger_core.specs.History.{entry_ticks, height, accepted, published, is_sender, is_tick, IsLegal, IsLegalEntry, IsLegalMoment}
+use Rattle.ledger_core.specs.History.{entry_ticks, height, accepted, is_sender, is_tick, IsLegal, IsLegalEntry, IsLegalMoment}
 use Rattle.ledger_core.specs.Book.{Histories, history, IsLegalBook}
 use Rattle.ledger_core.proofs.Bounds.{run_ticks, ticks-push, height-push}
 use Rattle.swap_rules.specs.Party.{is_arc_correct}

@@ -14,8 +14,8 @@ use Rattle.swap_rules.specs.Outcome.{outcome, is_claim, IsEnded}
 use Rattle.swap_rules.specs.Rest.{is_ticking, are_ticks, rest_deadline}
 use Rattle.swap_rules.specs.Machine.{Begins}
 use Rattle.swap_rules.specs.Laws.{IsUnforged}
-use Rattle.swap_rules.specs.Walking.{pressing, IsWatchful}
-use Rattle.swap_rules.specs.Useful.{useful}
+use Rattle.swap_rules.specs.Walking.{IsWatchful}
+use Rattle.swap_rules.specs.Useful.{pressing, useful}
 use Rattle.wallet_promise.specs.WithoutNoise.{telling, tellings, is_useless, needed_history, parts, needs, all_needed, merged, SaysTheSame, SayTheSame, SayEnough}
 use Rattle.wallet_promise.specs.WithoutNoise.{IsChain, IsChainBook, IsNeededChain, IsNeededBook, MakesNoTransfer}
 
@@ -33,12 +33,14 @@ EnoughIsDue =
 -- over books that say enough the same is useful for v
 abbrev pub EnoughIsUseful : Type 0
 EnoughIsUseful =
-    (d : Deal) (v : ℕ) (w : Wallet) (signed : ℕ → Option Hashkey) (k h : Histories) → SayEnough d v k h → useful d v w signed k ≡ useful d v w signed h
+    (d : Deal) (v : ℕ) (at : ℕ → ℕ) (w : Wallet) (signed : ℕ → Option Hashkey) (k h : Histories) → SayEnough d v k h
+    → useful d v at w signed k ≡ useful d v at w signed h
 
 -- over books that say enough the same presses for v
 abbrev pub EnoughIsPressing : Type 0
 EnoughIsPressing =
-    (d : Deal) (v : ℕ) (w : Wallet) (signed : ℕ → Option Hashkey) (k h : Histories) → SayEnough d v k h → pressing d v w signed k ≡ pressing d v w signed h
+    (d : Deal) (v : ℕ) (at : ℕ → ℕ) (w : Wallet) (signed : ℕ → Option Hashkey) (k h : Histories) → SayEnough d v k h
+    → pressing d v at w signed k ≡ pressing d v at w signed h
 
 -- it rests up to the same height
 abbrev pub EnoughRests : Type 0

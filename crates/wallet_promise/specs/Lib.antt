@@ -1,7 +1,11 @@
 pub mod WithoutNoise
 pub mod BookLaws
+pub mod Timely
+pub mod Landing
 pub mod Life
 pub mod Laws
 pub mod Answers
 pub mod ToldLife
 pub mod ToldLaws
+pub mod Retrying
+pub mod Mindful

@@ -11,21 +11,21 @@ use Rattle.ledger_core.specs.Book.{Histories, history, IsLegalBook}
 use Rattle.swap_rules.specs.Accepted.{IsAccepted}
 use Rattle.swap_rules.specs.Party.{is_correct, pick_call}
 use Rattle.swap_rules.specs.Conduct.{IsConducted}
-use Rattle.swap_rules.specs.Outcome.{IsEnded}
 use Rattle.swap_rules.specs.Due.{Wallet}
 use Rattle.swap_rules.specs.Machine.{Begins, IsWallet}
 use Rattle.swap_rules.specs.Laws.{IsOnTime, IsSafe}
 use Rattle.swap_rules.specs.Walking.{IsWatchful}
 use Rattle.wallet_promise.specs.WithoutNoise.{tellings, is_useless, all_needed, SayEnough, IsNeededBook, MakesNoTransfer}
-use Rattle.wallet_promise.specs.Life.{Asking, answer, IsLife}
-use Rattle.wallet_promise.specs.Answers.{answers}
-use Rattle.wallet_promise.specs.ToldLife.{Hearing, whole_asking, without_noise, as_needed, IsHeard, IsToldLife, IsToldAttentive, IsToldMindful}
+use Rattle.wallet_promise.specs.Life.{Asking, IsLife, HaveNearEnded}
+use Rattle.wallet_promise.specs.Answers.{answer, answers}
+use Rattle.swap_rules.specs.Counted.{all_counted}
+use Rattle.wallet_promise.specs.ToldLife.{Hearing, whole_asking, without_noise, as_needed, IsHeard, IsToldLife, IsToldAttentive}
 
--- what is answered goes by what is said alone
+-- what is answered goes by what is said alone of what counts
 abbrev pub AnswersAreTold : Type 0
 AnswersAreTold =
-    (d : Deal) (v : ℕ) (w : Wallet) (q r : Asking) (sent : ℕ → Bool) → SayEnough d v q.known r.known → q.kept ≡ r.kept
-    → (answer d v w q ≡ answer d v w r) × (answers d v w q sent ≡ answers d v w r sent)
+    (d : Deal) (v : ℕ) (at : ℕ → ℕ) (w : Wallet) (q r : Asking) (sent : ℕ → Bool) → SayEnough d v (all_counted v q.known) (all_counted v r.known)
+    → q.kept ≡ r.kept → (answer d v at w q ≡ answer d v at w r) × (answers d v at w q sent ≡ answers d v at w r sent)
 
 -- whatever begins each ledger's history is heard: as it stands, and as what v needs of it
 abbrev pub BeginningsAreHeard : Type 0
@@ -90,19 +90,15 @@ ToldIsLegal = OfEveryToldLife (λ d v w b hearings. IsLegalBook d (all_needed d 
 abbrev pub ToldLifeConducts : Type 0
 ToldLifeConducts = OfEveryToldLife (λ d v w b hearings. IsConducted d b v)
 
--- the party is safe where the book has ended and the party was nowhere late
+-- the party is safe where the ledgers next to it have ended and it was nowhere late
 abbrev pub ToldLifeIsSafe : Type 0
-ToldLifeIsSafe = OfEveryToldLife (λ d v w b hearings. IsEnded d b → IsOnTime d b v → IsSafe d b v)
+ToldLifeIsSafe = OfEveryToldLife (λ d v w b hearings. HaveNearEnded d b v → IsOnTime d b v → IsSafe d b v)
 
 -- it is, if within delta of each action that it has to do nothing is left due for it
 abbrev pub ToldAttentiveIsSafe : Type 0
 ToldAttentiveIsSafe =
-    OfEveryToldLife (λ d v w b hearings. IsToldAttentive d v w b hearings → IsOnTime d b v × (IsEnded d b → IsSafe d b v))
+    OfEveryToldLife (λ d v w b hearings. IsToldAttentive d v w b hearings → IsOnTime d b v × (HaveNearEnded d b v → IsSafe d b v))
 
 -- the party is safe where it was watchful, whatever it published or left out
 abbrev pub ToldWatchfulIsSafe : Type 0
 ToldWatchfulIsSafe = OfEveryToldLife (λ d v w b hearings. IsWatchful d b v → IsSafe d b v)
-
--- which a mindful wallet is, where the book has ended
-abbrev pub ToldMindfulIsSafe : Type 0
-ToldMindfulIsSafe = OfEveryToldLife (λ d v w b hearings. IsToldMindful d v w b hearings → IsEnded d b → IsWatchful d b v × IsSafe d b v)

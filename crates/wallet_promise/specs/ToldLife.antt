@@ -1,5 +1,5 @@
 -- A wallet's life in a book, where the wallet tells no noise, and of useless arcs only the ticks.
-use Rattle.std.specs.Prelude.{◌≡◌, ℕ, ◌<◌, ◌+◌, ◌≤◌, true, false, List, [], length, map, Option, Some}
+use Rattle.std.specs.Prelude.{◌≡◌, ℕ, ◌<◌, ◌+◌, ◌≤◌, true, false, List, [], map, Option, Some}
 use Rattle.swap_base.specs.Lists.{IsElement, IsMoment}
 use Rattle.swap_digraph.specs.Graph.{arcs}
 use Rattle.swap_digraph.specs.declared.deal.Deal.{Deal}
@@ -9,15 +9,13 @@ use Rattle.ledger_core.specs.declared.entry.Entry.{Entry}
 use Rattle.ledger_core.specs.History.{height}
 use Rattle.ledger_core.specs.Book.{Histories, history}
 use Rattle.swap_rules.specs.declared.finding.Rule.{Rule}
-use Rattle.swap_rules.specs.declared.finding.Rule.TheVariants.{Unlock as ToUnlock}
 use Rattle.swap_rules.specs.Party.{pick_call}
 use Rattle.swap_rules.specs.Conduct.{is_publish}
 use Rattle.swap_rules.specs.Late.{reference_height}
 use Rattle.swap_rules.specs.Findings.{deal_rules}
 use Rattle.swap_rules.specs.Due.{Wallet, has_called, due}
-use Rattle.swap_rules.specs.Machine.{Begins, Knows}
+use Rattle.swap_rules.specs.Machine.{Begins}
 use Rattle.swap_rules.specs.Rounds.{IsNear}
-use Rattle.swap_rules.specs.Walking.{HasLost, IsPastExpiries, pressing}
 use Rattle.wallet_promise.specs.WithoutNoise.{tellings, parts, needs, SayEnough}
 use Rattle.wallet_promise.specs.Life.{Asking, nothing_kept, MayGo, IsJournal}
 
@@ -77,29 +75,3 @@ abbrev pub IsToldAttentive : Deal → ℕ → Wallet → Histories → List Hear
 IsToldAttentive d v w b hearings =
     (rule : Rule) (a ref : ℕ) → IsElement rule (deal_rules d) → IsElement a (arcs d.graph) → reference_height d b v rule a ≡ Some ref → ref + d.delta < height (history b a)
     → CameToRest d v w hearings ref (ref + d.delta)
-
--- The wallet did what presses on time for the height `at`. Nothing pressed over what one of its
--- askings was told. Every ledger next to the party was past `at` then, and none was past `by`.
-pub record HadActedOnTime (d : Deal) (v : ℕ) (w : Wallet) (hearings : List Hearing) (at by : ℕ) : Type 0 where
-  pub hearing : Hearing
-  pub heard : IsElement hearing hearings
-  pub done : pressing d v w hearing.asking.kept hearing.asking.known ≡ []
-  pub past : (a : ℕ) → IsNear d v a → at < height (history hearing.behind a)
-  pub soon : (a : ℕ) → height (history hearing.behind a) ≤ by
-
--- The wallet did what presses by the end. Nothing pressed over what one of its askings was told.
--- Every ledger next to the party was past every expiry then, and had all calls of the party.
-pub record HadFinished (d : Deal) (v : ℕ) (w : Wallet) (b : Histories) (hearings : List Hearing) : Type 0 where
-  pub hearing : Hearing
-  pub heard : IsElement hearing hearings
-  pub done : pressing d v w hearing.asking.kept hearing.asking.known ≡ []
-  pub past : IsPastExpiries d v hearing.behind
-  pub all : (a : ℕ) → Knows v (history hearing.behind a) (history b a)
-
--- A mindful wallet: where an arc that leaves the party is triggered, it saw within delta to each
--- unlock that was enabled; and it saw to what presses at the end. When or whether it publishes
--- isn't asked.
-pub record IsToldMindful (d : Deal) (v : ℕ) (w : Wallet) (b : Histories) (hearings : List Hearing) : Type 0 where
-  pub unlocks : HasLost d b v → (i a ref : ℕ) → i < length d.leaders → IsElement a (arcs d.graph) → reference_height d b v (ToUnlock i) a ≡ Some ref
-      → ref + d.delta < height (history b a) → HadActedOnTime d v w hearings ref (ref + d.delta)
-  pub finished : HadFinished d v w b hearings

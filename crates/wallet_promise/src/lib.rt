@@ -5,7 +5,9 @@
 //! Read `specs/Life.antt` first, then `specs/Laws.antt`, then `specs/Answers.antt`: all that is
 //! answered at once. `specs/WithoutNoise.antt` says what is told of a history, and
 //! `specs/BookLaws.antt` that it is enough; `specs/ToldLife.antt` and `specs/ToldLaws.antt` promise
-//! the same to a wallet that is told so, on ledgers without limits.
+//! the same to a wallet that is told so, on ledgers without limits. `specs/Retrying.antt` is the
+//! life of a wallet that presents again what was refused, and `specs/Timely.antt` says what a party
+//! has to see to that presents only what is useful.
 #![tactic(auto)]
 
 ghost use Rattle.wallet_promise.specs.BookLaws.{WhatIsSaidIsDue, EnoughIsDue, EnoughIsUseful, EnoughIsPressing, EnoughRests, MergedSaysEnough};
@@ -13,14 +15,19 @@ ghost use Rattle.wallet_promise.specs.BookLaws.{WhatIsSaidRests, TellingsSayTheS
 ghost use Rattle.wallet_promise.specs.BookLaws.{LegalIsChain, TellingIsLegal, OthersAreFew, BalancesAreTold, MergedIsLegal, TellingIsShort, BookCanBeTold};
 ghost use Rattle.wallet_promise.specs.BookLaws.{ChainIsNeeded, NeededIsLegal, NeededIsShort, NeededCanBeTold};
 ghost use Rattle.wallet_promise.specs.Laws.{LifeConducts, LifeIsSafe, OneHashkey, AskedIsNotKept, KeptMayGo};
-ghost use Rattle.wallet_promise.specs.Laws.{NothingIsLost, AnswersMayGo, AnswersMayBeKept, ToldIsOnce, TwiceIsBroken};
+ghost use Rattle.wallet_promise.specs.Laws.{NothingIsLost, ToldIsOnce, TwiceIsBroken};
 ghost use Rattle.wallet_promise.specs.Laws.{TwoKeysAreBroken, LifeLeavesRoom, PatienceLeavesRoom, AttentiveIsSafe, LedgersHoldKeys};
-ghost use Rattle.wallet_promise.specs.Laws.{WatchfulLifeIsSafe, MindfulIsSafe};
+ghost use Rattle.wallet_promise.specs.Laws.{WatchfulLifeIsSafe};
 ghost use Rattle.wallet_promise.specs.Laws.{LifeBegins, OthersContinue, AskingContinues, CallsLand};
 ghost use Rattle.wallet_promise.specs.Answers.{AllIsUseful, AllMayGo, AllMayBeKept, EachKeyIsAsked, NoneIsSentTwice, NothingIsLeftOut, RestIsNothing};
+ghost use Rattle.wallet_promise.specs.Answers.{AnswersMayGo, AnswersMayBeKept};
 ghost use Rattle.wallet_promise.specs.ToldLaws.{AnswersAreTold, BeginningsAreHeard, ToldLifeIsLife, ToldLifeIsToldLife, ToldLifeIsNeededLife};
 ghost use Rattle.wallet_promise.specs.ToldLaws.{NothingIsGiven, NothingIsCalledThere, ToldIsLegal, ToldLifeConducts, ToldLifeIsSafe, ToldAttentiveIsSafe};
-ghost use Rattle.wallet_promise.specs.ToldLaws.{ToldWatchfulIsSafe, ToldMindfulIsSafe};
+ghost use Rattle.wallet_promise.specs.ToldLaws.{ToldWatchfulIsSafe};
+ghost use Rattle.wallet_promise.specs.Timely.{TimelyIsSafe, MayStopPublishing};
+ghost use Rattle.wallet_promise.specs.Landing.{AnsweredIsAccepted, AnsweredOpens, MissedIsNeverPaid, LostIsEnabled};
+ghost use Rattle.wallet_promise.specs.Retrying.{RetryingIsTold, RetryingIsPromised, RefusedIsNoise, CountedIsLegal, CountedToldIsLegal};
+ghost use Rattle.wallet_promise.specs.Mindful.{MindfulIsSafe, RetryingMindfulIsSafe, RetryingWatchfulIsSafe, ToldMindfulIsSafe};
 
 /// The same is due over books that say the same; a history says what is told of it, and ticks may
 /// be told as one.
@@ -84,11 +91,46 @@ pub fn life_conducts()
 {}
 
 /// Walking away is safe: a wallet may publish late, or nothing, and stop at any time. It is safe if
-/// it does two things. Within delta after an arc that leaves its party is triggered, it makes its
-/// unlocks. Once at the end, past every expiry, it makes its claims and refunds.
+/// it does two things. Within delta after an arc that leaves its party is triggered, it presents
+/// what is useful of its unlocks. Once at the end, past every expiry, it makes its claims and
+/// refunds. On time goes by the heights at which its calls land.
 pub fn walking_away_is_safe()
     ensures safe { WatchfulLifeIsSafe }
     ensures mindful { MindfulIsSafe }
+    ensures timely { TimelyIsSafe }
+    ensures stops { MayStopPublishing }
+{}
+
+/// What is answered is accepted, or opens in time, wherever it lands by the height that was counted
+/// on.
+pub fn answered_is_accepted()
+    ensures unlocks { AnsweredIsAccepted }
+    ensures publishes { AnsweredOpens }
+{}
+
+/// A hashkey that an entering arc doesn't take can't make a whole deal any more. Whoever has lost an
+/// arc has every unlock enabled, whatever it withheld.
+pub fn withholding_is_right()
+    ensures missed { MissedIsNeverPaid }
+    ensures lost { LostIsEnabled }
+{}
+
+/// A wallet that presents again what was refused lives a told life, and keeps all that such a life
+/// is promised; and it is safe where it was watchful, or mindful.
+pub fn retrying_is_told()
+    ensures told { RetryingIsTold }
+    ensures promised { RetryingIsPromised }
+    ensures watchful { RetryingWatchfulIsSafe }
+    ensures mindful { RetryingMindfulIsSafe }
+    ensures told_mindful { ToldMindfulIsSafe }
+{}
+
+/// A party's refused unlocks, claims and refunds are noise: they needn't be told, and without them
+/// what is told is legal.
+pub fn refused_is_noise()
+    ensures noise { RefusedIsNoise }
+    ensures legal { CountedIsLegal }
+    ensures told { CountedToldIsLegal }
 {}
 
 /// All unlock calls for a lock carry one hashkey, which was kept before it went out; none is kept
@@ -153,5 +195,4 @@ pub fn told_life_conducts()
     ensures safe { ToldLifeIsSafe }
     ensures attentive { ToldAttentiveIsSafe }
     ensures watchful { ToldWatchfulIsSafe }
-    ensures mindful { ToldMindfulIsSafe }
 {}

@@ -1,7 +1,8 @@
 //! An input is replayed as it comes: its first event is over before much of what follows is asked
 //! for.
 
-ghost use Rattle.std.specs.Prelude.{IfOk, Some};
+ghost use Rattle.std.specs.Prelude.{IfOk};
+ghost use Rattle.swap_io.specs.Supply.{supply_tape};
 ghost use Rattle.swap_run.specs.View.{IsView, MayAnswer};
 
 use crate::tests::attackers::Answered;
@@ -30,7 +31,7 @@ struct Watched {
 }
 
 impl Source for Watched {
-    ghost left = { λ w. Some w.source.left };
+    ghost left = { λ w. supply_tape w.source };
 
     ghost faults = { λ w. w.source.faults };
 

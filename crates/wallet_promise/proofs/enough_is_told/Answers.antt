@@ -7,10 +7,10 @@ pub returns-clause-due : goal.returns-clause-due
 returns-clause-due c = λ d v w signed k h s. enough.same_due d v k h s w signed
 
 pub returns-clause-useful : goal.returns-clause-useful
-returns-clause-useful c = λ d v w signed k h s. enough.same_useful d v k h s w signed
+returns-clause-useful c = λ d v at w signed k h s. enough.same_useful d v k h s at w signed
 
 pub returns-clause-presses : goal.returns-clause-presses
-returns-clause-presses c = λ d v w signed k h s. enough.same_pressing d v k h s w signed
+returns-clause-presses c = λ d v at w signed k h s. enough.same_pressing d v k h s at w signed
 
 pub returns-clause-rests : goal.returns-clause-rests
 returns-clause-rests c = enough.same_rest

@@ -15,6 +15,3 @@ returns-clause-attentive c = lives.told_attentive_is_safe
 
 pub returns-clause-watchful : goal.returns-clause-watchful
 returns-clause-watchful c = lives.told_watchful_is_safe
-
-pub returns-clause-mindful : goal.returns-clause-mindful
-returns-clause-mindful c = lives.told_mindful_is_safe

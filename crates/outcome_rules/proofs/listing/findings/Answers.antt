@@ -13,6 +13,9 @@ returns-clause-exact c =
 pub returns-clause-safe : goal.returns-clause-safe
 returns-clause-safe c = rw (ap all_entries c.deref.ensures.value ∙ c.in_ok-known.ensures.entries) at c.findings_indexed.ensures.safe
 
+pub returns-clause-gains : goal.returns-clause-gains
+returns-clause-gains c = rw (ap all_entries c.deref.ensures.value ∙ c.in_ok-known.ensures.entries) at c.findings_indexed.ensures.gains
+
 pub returns-clause-refunds : goal.returns-clause-refunds
 returns-clause-refunds c = rw (ap all_entries c.deref.ensures.value ∙ c.in_ok-known.ensures.entries) at c.findings_indexed.ensures.refunds
 
@@ -21,3 +24,9 @@ returns-clause-transfer c = rw (ap all_entries c.deref.ensures.value ∙ c.in_ok
 
 pub returns-clause-nothing_found : goal.returns-clause-nothing_found
 returns-clause-nothing_found c = rw (ap all_entries c.deref.ensures.value ∙ c.in_ok-known.ensures.entries) at c.findings_indexed.ensures.nothing_found
+
+pub returns-clause-paid : goal.returns-clause-paid
+returns-clause-paid c = rw (ap all_entries c.deref.ensures.value ∙ c.in_ok-known.ensures.entries) at c.findings_indexed.ensures.paid
+
+pub returns-clause-units : goal.returns-clause-units
+returns-clause-units c = rw (ap all_entries c.deref.ensures.value ∙ c.in_ok-known.ensures.entries) at c.findings_indexed.ensures.units

@@ -19,6 +19,10 @@ returns-clause-safe c =
     promises.none_is_underwater c.args.deal.now c.args.conforming.now (all_entries c.args.known.now) c.new.result c.requires.legal
     (returns-clause-exact c)
 
+pub returns-clause-gains : goal.returns-clause-gains
+returns-clause-gains c =
+    promises.nobody_gains c.args.deal.now c.args.conforming.now (all_entries c.args.known.now) c.new.result c.requires.legal (returns-clause-exact c)
+
 pub returns-clause-refunds : goal.returns-clause-refunds
 returns-clause-refunds c =
     promises.all_have_refunds c.args.deal.now c.args.conforming.now (all_entries c.args.known.now) c.new.result c.requires.legal (returns-clause-exact c)
@@ -30,3 +34,11 @@ returns-clause-transfer c =
 pub returns-clause-nothing_found : goal.returns-clause-nothing_found
 returns-clause-nothing_found c =
     promises.finds_nothing c.args.deal.now c.args.conforming.now (all_entries c.args.known.now) c.new.result c.requires.legal (returns-clause-exact c)
+
+pub returns-clause-paid : goal.returns-clause-paid
+returns-clause-paid c =
+    promises.all_are_paid c.args.deal.now c.args.conforming.now (all_entries c.args.known.now) c.new.result c.requires.legal (returns-clause-exact c)
+
+pub returns-clause-units : goal.returns-clause-units
+returns-clause-units c =
+    promises.none_loses_units c.args.deal.now c.args.conforming.now (all_entries c.args.known.now) c.new.result c.requires.legal (returns-clause-exact c)

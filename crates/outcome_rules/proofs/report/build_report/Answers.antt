@@ -9,6 +9,9 @@ returns-clause-exact c =
     subst (λ (b : Histories). IfOk c.report_indexed.result (λ r. r ≡ build_report c.args.deal.now c.args.conforming.now b))
     (ap all_entries c.deref.ensures.value ∙ c.in_ok-known.ensures.entries) c.report_indexed.ensures.exact
 
+pub returns-clause-gains : goal.returns-clause-gains
+returns-clause-gains c = rw (ap all_entries c.deref.ensures.value ∙ c.in_ok-known.ensures.entries) at c.report_indexed.ensures.gains
+
 pub returns-clause-refunds : goal.returns-clause-refunds
 returns-clause-refunds c = rw (ap all_entries c.deref.ensures.value ∙ c.in_ok-known.ensures.entries) at c.report_indexed.ensures.refunds
 
@@ -17,3 +20,9 @@ returns-clause-transfer c = rw (ap all_entries c.deref.ensures.value ∙ c.in_ok
 
 pub returns-clause-nothing_found : goal.returns-clause-nothing_found
 returns-clause-nothing_found c = rw (ap all_entries c.deref.ensures.value ∙ c.in_ok-known.ensures.entries) at c.report_indexed.ensures.nothing_found
+
+pub returns-clause-paid : goal.returns-clause-paid
+returns-clause-paid c = rw (ap all_entries c.deref.ensures.value ∙ c.in_ok-known.ensures.entries) at c.report_indexed.ensures.paid
+
+pub returns-clause-units : goal.returns-clause-units
+returns-clause-units c = rw (ap all_entries c.deref.ensures.value ∙ c.in_ok-known.ensures.entries) at c.report_indexed.ensures.units

@@ -9,8 +9,8 @@ use Rattle.party_answer.proofs.answering.answer_known.Goals as goal
 pub returns : goal.returns
 returns c =
     answer_given (asked_question c.args.seed.now c.args.asked.now) _ _
-    (text_given c.args.seed.now c.args.asked.now (all_entries c.args.known.now) _ _ _ c.requires.entries
+    (text_given c.args.seed.now c.args.asked.now (all_entries c.args.known.now) _ _ _ _ c.requires.entries
     (c.deref-2.ensures.value ∙ (c.in_ok-list.ensures ∙ ap (all_unkept (signed_hashkey c.args.asked.now.kept.signed.keys)) c.as_slice.ensures))
-    (c.deref-3.ensures.value ∙ c.in_ok-calls.ensures) c.in_ok-text.ensures)
+    (c.deref-3.ensures.value ∙ c.in_ok-calls.ensures) (c.deref-4.ensures.value ∙ c.in_ok-landing.ensures) c.in_ok-text.ensures)
     (warns_given c.args.seed.now c.args.asked.now _ _
-    (c.deref-4.ensures.value ∙ (c.in_ok-list.ensures ∙ ap (all_unkept (signed_hashkey c.args.asked.now.kept.signed.keys)) c.as_slice.ensures)) c.is_warning-warns.ensures)
+    (c.deref-5.ensures.value ∙ (c.in_ok-list.ensures ∙ ap (all_unkept (signed_hashkey c.args.asked.now.kept.signed.keys)) c.as_slice.ensures)) c.is_warning-warns.ensures)

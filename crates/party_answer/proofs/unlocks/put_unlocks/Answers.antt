@@ -3,7 +3,7 @@ use Rattle.std.specs.List.{flat_map}
 use Rattle.swap_digraph.specs.Deal.{locks}
 use Rattle.conduct_check.proofs.KeyLoops.{flat_more}
 use Rattle.party_answer.specs.Actions.{actions}
-use Rattle.party_answer.specs.Asker.{asker_key, asker_unlocks, asker_wallet, is_stopped, known_entries}
+use Rattle.party_answer.specs.Asker.{asker_at, asker_key, asker_unlocks, asker_wallet, is_stopped, known_entries}
 use Rattle.party_answer.proofs.Based.{none_unless, nothing_more}
 use Rattle.party_answer.proofs.unlocks.put_unlocks.Goals as goal
 
@@ -12,7 +12,7 @@ returns-then-not-is_ready c =
     let p = c.args.asker.now in
     let old = actions c.args.calls.now.items in
     nothing_more old old (flat_map (asker_unlocks p) (locks p.deal.now)) refl
-    (none_unless (is_stopped p) p.deal.now p.me (asker_wallet p) (asker_key p) (known_entries p) (sym c.is_ready.ensures ∙ c.if-not-is_ready.true))
+    (none_unless (is_stopped p) p.deal.now p.me (asker_at p) (asker_wallet p) (asker_key p) (known_entries p) (sym c.is_ready.ensures ∙ c.if-not-is_ready.true))
 
 pub loop-lock-preserved : goal.loop-lock-preserved
 loop-lock-preserved c =

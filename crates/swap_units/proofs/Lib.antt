@@ -1,0 +1,4 @@
+pub mod Spent
+pub mod Units
+pub mod Found
+pub mod Heights
