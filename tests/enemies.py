@@ -4,7 +4,10 @@ that does what it likes, on chains without limits.
 A coalition has the seeds of its parties, sees every call at once, withholds, floods, publishes what
 can't be told, presents at the last height, by odd paths, with signatures of its own keys as it
 likes, and what others presented. Honest wallets are late, crash, lose what they didn't sync, see
-false ledgers, are asked to follow another deal's header, and some walk away.
+false ledgers, are asked to follow another deal's header, and some walk away. What they present lands
+some heights later, more than once, and is refused; chains rise as they like, show what isn't final,
+and take back what isn't as deep as was agreed on. One swap in twenty has a chain that takes back
+more: of it nothing is promised but that each wallet is answered, and signs once for a lock.
 
 Each answer has to be the model's. At the end each honest wallet has to be watchful, safe, and to
 have its refunds: by the rule book (`model/rules.py`), and by an audit of what it needed to tell.
@@ -34,7 +37,7 @@ from model.texts import call_words, report, transcript, words
 from model.transcripts import call_of, entry_of
 
 from swap_party import Answer as Answered
-from swap_party import Asked, Bad, Due, Keep, Landing, Publish, Row, Sent, Unkept, agreed_digest
+from swap_party import Asked, Bad, Due, Keep, Landing, Margin, Now, Publish, Row, Sent, Unkept, agreed_digest
 from swap_party import Ledger as Told
 from swap_party import Terms as AgreedTerms
 from swap_party.answer import Note, note_of
@@ -120,6 +123,7 @@ class Chain:
         self.is_strange = False
         # (hashkeys that were presented, which all can read)
         self.shown: list[Hashkey] = []
+        self.shown_by: dict[int, set[Hashkey]] = {}
 
     @property
     def height(self) -> int:
@@ -128,6 +132,28 @@ class Chain:
     def write(self, line: str, by: int = 0) -> None:
         self.lines.append(line)
         self.heights.append(self.height + by)
+
+    def final(self, depth: int) -> int:
+        """How many lines lie as deep as that."""
+        return max(at for at, height in enumerate(self.heights) if height <= max(0, self.height - depth))
+
+    def take_back(self, depth: int) -> list[tuple[int, Call]]:
+        """Stands as it did before the last heights, and then rises as high again. The calls that it
+        takes back wait to land anew."""
+        stays, height, is_strange = self.final(depth), self.height, self.is_strange
+        entries, lines = list(self.ledger.entries), self.lines
+        if is_strange or len(lines) != len(entries):
+            return []
+        lost = [(it.sender, it.call) for it in entries[stays:] if it.sender is not None]
+        self.ledger, self.lines, self.heights = Unlimited(self.ledger.deal, self.arc), [], [0]
+        for entry in entries[:stays]:
+            if entry.sender is None:
+                self.tick(entry.call.stated)
+            else:
+                self.call(entry.sender, entry.call)
+        if height > self.height:
+            self.tick(height - self.height)
+        return lost
 
     def tick(self, by: int) -> None:
         self.ledger.push(None, Call(TICK, by), ACCEPTED)
@@ -142,6 +168,7 @@ class Chain:
             self.ledger.push(sender, call, reply)
         if call.kind == UNLOCK:
             self.shown.append(call.stated)
+            self.shown_by.setdefault(sender, set()).add(call.stated)
         self.write(f"c {sender} {call_words(call)} = {words(reply)}")
         return reply
 
@@ -217,10 +244,13 @@ class Wallet:
         self.journal = Journal()
         self.walks_at = self.chance.randint(0, 2 * self.agreed.deal.start) if self.chance.random() < 0.2 else None
         self.crashes = self.chance.choice([0, 0, 0.02, 0.1])
+        # (in how many heights its calls land, at most; and how readily it presents a call again)
+        self.margin = self.chance.randint(0, self.agreed.deal.delta // 3)
+        self.repeats = self.chance.choice([0, 0, 0.1, 0.5])
         # (what the network has of its calls; a publish lands once, as it carries one nonce)
-        self.pending: list[tuple[int, Call]] = []
+        self.pending: list[tuple[int, Call, int]] = []
         # (the least height, of its chains as it saw them when nothing was left to do)
-        self.rested = 0
+        self.rested = self.asked_at = 0
         self.start()
 
     def start(self) -> None:
@@ -234,17 +264,27 @@ class Wallet:
     def look(self, is_whole: bool) -> None:
         """Sees each chain up to some line."""
         for arc in self.near:
-            last = len(self.swap.chains[arc].lines)
+            last = self.swap.chains[arc].final(self.swap.depth)
+            self.seen[arc] = min(self.seen[arc], last)
             self.seen[arc] = last if is_whole or self.chance.random() < 0.6 else self.chance.randint(self.seen[arc], last)
 
     def calls(self) -> int:
         return sum(line.startswith("c") for arc in self.near for line in self.swap.chains[arc].lines[: self.seen[arc]])
 
-    def height(self, arc: int, entries: int) -> int:
-        return self.swap.chains[arc].heights[entries]
+    def height(self, arc: int) -> int:
+        """The height at which it sees a ledger: where all that is final was seen, it rises with the
+        chain."""
+        chain = self.swap.chains[arc]
+        height = chain.heights[self.seen[arc]]
+        return max(height, chain.height - self.swap.depth) if self.seen[arc] == chain.final(self.swap.depth) else height
 
     def told(self) -> dict[int, list[str]]:
-        return {arc: self.swap.chains[arc].lines[: self.seen[arc]] for arc in self.near}
+        found = {}
+        for arc in self.near:
+            chain, last = self.swap.chains[arc], self.seen[arc]
+            more = self.height(arc) - chain.heights[last]
+            found[arc] = chain.lines[:last] + [f"t {more}"] * (more > 0)
+        return found
 
     def falsified(self, told: dict[int, list[str]]) -> None:
         """A false ledger: a line that can't be read, or a call of its own that never was."""
@@ -266,8 +306,10 @@ class Wallet:
 
     def text(self, told: dict[int, list[str]], header: Optional[str] = None) -> bytes:
         ledgers = tuple(Told(arc, tuple(lines)) for arc, lines in told.items())
-        asked = Asked(self.agreed.digest, tuple(self.notes), header or self.agreed.header, self.agreed.context, ledgers, self.seed.hex())
-        return str(asked).encode()
+        heights: list[Now | Margin] = [Now(arc, min(1_000_000, self.swap.chains[arc].height)) for arc in self.near]
+        heights += [Margin(arc, self.margin) for arc in self.near if self.margin]
+        it = self.agreed
+        return str(Asked(it.digest, tuple(self.notes), header or it.header, it.context, ledgers, self.seed.hex(), tuple(heights))).encode()
 
     def asks(self, text: bytes) -> Answer:
         return self.swap.programs.asked(["next", self.name], text)
@@ -295,9 +337,9 @@ class Wallet:
     def present(self, arc: int, said: str) -> None:
         """Hands a call to the network, once unless it crashes."""
         call = said_call(self.agreed.deal, arc, said)
-        if (arc, said) not in self.presented:
+        if (arc, said) not in self.presented or call.kind != PUBLISH and self.chance.random() < self.repeats:
             self.presented.add((arc, said))
-            self.pending.append((arc, call))
+            self.pending.append((arc, call, self.swap.chains[arc].height + self.margin))
             self.swap.overhear(call)
             self.may_crash()
 
@@ -325,16 +367,16 @@ class Wallet:
         if self.quiet is None or self.walks():
             return False
         calls, until = self.quiet
-        return calls == self.calls() and (until is None or max(self.height(arc, self.seen[arc]) for arc in self.near) <= until)
+        return calls == self.calls() and (until is None or max(self.height(arc) for arc in self.near) <= until)
 
     def heard(self, answer: Answered, told: dict[int, list[str]]) -> None:
         """What an answer says of how long it may rest, by what was read of its ledgers."""
         bad = {it.arc: it.entry for it in answer.warnings if isinstance(it, Bad)}
-        must(not any(isinstance(it, Unkept) for it in answer.warnings), f"{self.name} is told that its seed is another's: {answer.warnings}")
+        is_doubted = any(isinstance(it, Unkept) for it in answer.warnings)
+        must(not is_doubted, f"{self.name} is told that its seed is another's: {answer.warnings}")
         rest = answer.rest
-        if rest is not None or all(map(self.is_left, answer.told[len(answer.warnings) :])):
-            self.rested = max(self.rested, min(risen(told[arc][: bad.get(arc, len(told[arc]))]) for arc in self.near))
-        if rest is not None and not bad:
+        self.asked_at = min(risen(told[arc][: bad.get(arc, len(told[arc]))]) for arc in self.near)
+        if rest is not None and not answer.warnings:
             self.quiet = self.calls(), getattr(rest, "until", None)
 
     def ask(self) -> Answered:
@@ -363,25 +405,32 @@ class Wallet:
         try:
             self.look(is_whole)
             if self.may_rest():
-                self.rested = max(self.rested, min(self.height(arc, self.seen[arc]) for arc in self.near))
+                self.rested = max(self.rested, min(self.height(arc) for arc in self.near))
                 return
             self.may_crash()
-            for told in self.ask().told:
+            answer = self.ask()
+            for told in answer.told:
                 self.obey(told)
+            # (what it presented lands in time: then it is done with what it saw)
+            if not any(isinstance(it, Keep) for it in answer.told):
+                self.rested = max(self.rested, self.asked_at)
         except Crashed:
             self.journal.crash(self.chance)
             self.start()
 
-    def land(self) -> None:
-        """Some of what it presented lands, in the order in which it did."""
+    def land(self, arc: Optional[int] = None, height: int = 0) -> None:
+        """Some of what it presented lands; on an arc that rises to that height, all that was to land
+        below it."""
         left = []
-        for arc, call in self.pending:
-            if call.kind == PUBLISH and any(it.kind == PUBLISH for it in self.swap.chains[arc].own(self.me)):
+        for at, call, last in self.pending:
+            if call.kind == PUBLISH and any(it.kind == PUBLISH for it in self.swap.chains[at].own(self.me)):
                 continue
-            if self.chance.random() < 0.3:
-                left.append((arc, call))
-            elif len(list(self.swap.chains[arc].own(self.me))) < 30:
-                self.swap.chains[arc].call(self.me, call)
+            if last >= height if at == arc else arc is not None or self.chance.random() < 0.3:
+                left.append((at, call, last))
+                continue
+            reply = self.swap.chains[at].call(self.me, call)
+            is_useful = reply[0] not in ("TooLate", "WrongPath", "WrongSignature", "WrongSecret", "NotCounterparty", "NotParty", "StillLocked")
+            must(is_useful or self.swap.is_deep, f"{self.name} was answered {call_words(call)[:30]}, which is refused: {words(reply)}")
         self.pending = left
 
 
@@ -558,6 +607,8 @@ class Swap:
         self.agreed = self.agree(offer, seeds)
         deal = self.agreed.deal
         self.chains = [Chain(deal, arc) for arc in deal.arcs]
+        # (how deep a call has to lie, and whether a chain takes back more than that)
+        self.depth, self.is_deep = chance.choice([0, 0, 1, deal.delta // 3]), chance.random() < 0.05
         bad = set(chance.sample(list(deal.parties), chance.randint(1, len(deal.parties) - 1)))
         self.coalition = Coalition(self, {party: seeds[party] for party in bad})
         self.enemies = [Enemy(self, party) for party in sorted(bad)]
@@ -587,27 +638,46 @@ class Swap:
     # ---- time
     def room(self, arc: int) -> int:
         """By how much a chain may rise: each wallet next to it was at rest at most delta below."""
-        near = [it.rested + self.agreed.deal.delta for it in self.wallets if arc in it.near]
+        near = [it.rested + self.agreed.deal.delta - it.margin for it in self.wallets if arc in it.near]
         return min(near, default=self.chains[arc].height + self.agreed.deal.delta) - self.chains[arc].height
 
     def tick(self) -> bool:
         """Lets a chain rise, often to a height that decides something. Whether one may."""
         deal = self.agreed.deal
-        may = [arc for arc in deal.arcs if self.room(arc) > 0 and self.chains[arc].height <= deal.horizon]
+        may = [arc for arc in deal.arcs if self.room(arc) > 0 and self.chains[arc].height <= deal.horizon + self.depth]
         if not may:
             return False
         arc = self.chance.choice(may)
         height, room = self.chains[arc].height, self.room(arc)
         steps = [deal.start + it * deal.delta for it in range(2 * deal.bound + 3)] + [deal.delta]
         marks = [it + more - height for it in steps for more in (0, 1) if 0 < it + more - height <= room]
-        self.chains[arc].tick(self.chance.choice(marks) if marks and self.chance.random() < 0.6 else self.chance.randint(1, room))
+        by = self.chance.choice(marks) if marks and self.chance.random() < 0.6 else self.chance.randint(1, room)
+        for it in self.wallets:
+            it.land(arc, height + by)
+        self.chains[arc].tick(by)
+        self.reorganise(arc)
         return True
+
+    def reorganise(self, arc: int) -> None:
+        """A chain takes back what isn't final, or more."""
+        deepest = self.depth + self.chance.randint(1, self.agreed.deal.delta) if self.is_deep and self.chance.random() < 0.1 else self.depth
+        if not deepest or self.chance.random() > 0.2:
+            return
+        height = self.chains[arc].height
+        for sender, call in self.chains[arc].take_back(deepest):
+            near = [it for it in self.wallets if it.me == sender]
+            if near:
+                near[0].pending.append((arc, call, height + near[0].margin))
+            elif self.chance.random() < 0.7:
+                self.chains[arc].call(sender, call)
 
     def run(self) -> None:
         """Until every chain is above the horizon, and every wallet at rest there."""
         deal = self.agreed.deal
         for turn in range(100_000):
             if all(chain.height > deal.horizon for chain in self.chains) and all(it.rested > deal.horizon for it in self.wallets):
+                return
+            if self.is_deep and turn > 3_000:
                 return
             ticked = self.tick()
             for enemy in self.enemies:
@@ -630,18 +700,24 @@ class Swap:
             is_useless = chain.is_strange or me == ledger.counterparty and chain.ledger.terms(len(entries)) != ledger.correct_terms
             for entry in entries:
                 is_of_contract = entry.reply == ACCEPTED and entry.call.kind in (PUBLISH, UNLOCK, CLAIM, REFUND) and not is_useless
-                if entry.call.kind == TICK or is_near and (entry.sender == me or is_of_contract):
+                is_own = entry.sender == me and (entry.reply == ACCEPTED or entry.call.kind == PUBLISH)
+                if entry.call.kind == TICK or is_near and (is_own or is_of_contract):
                     reply = ledger.make(entry.sender, entry.call)
                     must(reply == entry.reply, f"what {me} needs of ledger {ledger.arc}: {reply} in place of {entry.reply}")
         return View(deal, ledgers, [len(ledger.entries) for ledger in ledgers])
 
     def judge(self, it: Wallet) -> None:
         """By the rule book, and by an audit."""
+        keys = {key for chain in self.chains for key in chain.shown_by.get(it.me, ())}
+        must(len({key.lock for key in keys}) == len(keys), f"{it.name} signed twice for a lock")
+        if self.is_deep:
+            return
         book, deal, me = self.needed(it.me), self.agreed.deal, it.me
         late = [rule for rule, _, _ in lateness(book, me)]
         must(not any(breaches(book, me)), f"{it.name} broke its conduct: {list(breaches(book, me))}")
         must(not any(forgeries(book, me)), f"in the name of {it.name}: {list(forgeries(book, me))}")
-        must(set(late) <= {PUBLISH}, f"{it.name} is late: {list(lateness(book, me))}")
+        # (the clocks' law speaks of unlocks and claims; a late refund costs nothing)
+        must(set(late) <= {PUBLISH, REFUND}, f"{it.name} is late: {list(lateness(book, me))}")
         must(is_watchful(book, me), f"{it.name} isn't watchful")
         must(outcome(book, me) != "Underwater" and has_refunds(book, me), f"{it.name} ends {outcome(book, me)}, refunds {has_refunds(book, me)}")
         conforming = [party == me for party in deal.parties]

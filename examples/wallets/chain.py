@@ -62,9 +62,12 @@ class Chain:
         with self.held() as file:
             self.write(file, Tick(by))
 
-    def call(self, party: int, call: Call) -> None:
-        """Presents a call. The reply is read off the chain, as everybody reads it."""
+    def call(self, party: int, call: Call, once: bool = False) -> None:
+        """Presents a call. The reply is read off the chain, as everybody reads it. Where it may stand
+        once alone, as one that carries a nonce, a second is dropped."""
         with self.held() as file:
+            if once and any(isinstance(it, Called) and (it.party, it.call) == (party, call) for it in self.entries):
+                return
             reply = self.contract.copy().reply(self.height, party, call)
             if reply != FULL:
                 self.write(file, Called(party, call, reply))

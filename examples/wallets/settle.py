@@ -213,7 +213,7 @@ class Swap:
 
     def audit(self) -> tuple[int, str, str]:
         """The status, the report, and what was told."""
-        ended = subprocess.run([SWAP, "audit"], input=str(self.transcript()), capture_output=True, text=True)
+        ended = subprocess.run([SWAP, "audit"], input=str(self.transcript()), capture_output=True, text=True, env={**os.environ, "SWAP_PLAIN": "1"})
         return ended.returncode, ended.stdout, ended.stderr
 
 
@@ -233,7 +233,7 @@ def settled(
 def build(program: str) -> None:
     """Has a script that builds its program do so, before any clock runs."""
     print(f"settle: {os.path.basename(program)} is built now, if it isn't yet: a minute or two", file=sys.stderr, flush=True)
-    environment = {**os.environ, "SWAP_WAIT": "1"}
+    environment = {**os.environ, "SWAP_WAIT": "1", "SWAP_PLAIN": "1"}
     ended = subprocess.run([program], stdin=subprocess.DEVNULL, capture_output=True, text=True, env=environment)
     if ended.returncode != 2:
         raise SystemExit(ended.stderr.strip())
@@ -257,6 +257,7 @@ def main() -> int:
     job = sys.stdin.readline()
     build(wallet.PARTY)
     build(SWAP)
+    print("settle: the wallets settle until their chains stand above the swap's horizon: some seconds", file=sys.stderr, flush=True)
     chance = random.Random(asked.seed)
     status, report, told = settled(job, chance, 6 if asked.kills else 0, asked.late, asked.twice, asked.walks)
     sys.stdout.write(report)

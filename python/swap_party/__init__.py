@@ -1,55 +1,92 @@
 """The wallet of one party of an atomic swap across chains, and the texts of `swap` and `party` as
 values.
 
-`wallet` asks what is due, by the library or by the programs. `notes` keeps what a wallet must keep.
+`engine.Wallet` is a wallet to embed: it reads chains, asks what is due, keeps what it must, and
+presents what it may. `wallet` asks, by the library or by the programs, and `notes` keeps.
 `formats.parse` reads any text, and `str` of what it answers is the same text.
 """
-from .answer import Answer, Asked, Bad, Done, Due, Keep, Landing, Ledger, Note, Sent, Unkept, Wait, agreed_digest
-from .calls import ACCEPTED, Called, Claim, Hashkey, Publish, Refund, Reply, Tick, Transfer, Unlock
+from .answer import (
+    Answer,
+    Asked,
+    Bad,
+    Done,
+    Due,
+    Keep,
+    Landing,
+    Ledger,
+    Margin,
+    Never,
+    Note,
+    Now,
+    Sent,
+    Unkept,
+    Wait,
+    agreed_digest,
+)
+from .calls import ACCEPTED, Call, Called, Claim, Hashkey, Publish, Refund, Reply, Tick, Transfer, Unlock
 from .cleared import Cleared, Plain
+from .clocks import Clock, Slow
+from .engine import Chains, NotProvedError, Reading, Stale, Step, Wallet
 from .formats import parse
 from .header import Header
 from .lines import NotOfTheFormatError
 from .many import Many, Reports
-from .notes import Notes
+from .notes import Agreement, DisagreedError, InUseError, Notes
 from .report import Report
+from .seeds import Seed
 from .summary import Summary, Times
 from .terms import Row, Terms
 from .transcript import Transcript
-from .wallet import Library, NoAnswerError, Party, Program, RefusedError, TooLongError
+from .wallet import Build, Library, NoAnswerError, Party, Program, RefusedError, TooLongError
 
 __all__ = [
     "ACCEPTED",
+    "Agreement",
     "Answer",
     "Asked",
     "Bad",
+    "Build",
+    "Call",
     "Called",
+    "Chains",
     "Claim",
     "Cleared",
+    "Clock",
+    "DisagreedError",
     "Done",
     "Due",
     "Hashkey",
     "Header",
+    "InUseError",
     "Keep",
     "Landing",
     "Ledger",
     "Library",
     "Many",
+    "Margin",
+    "Never",
     "NoAnswerError",
     "NotOfTheFormatError",
+    "NotProvedError",
     "Note",
     "Notes",
+    "Now",
     "Party",
     "Plain",
     "Program",
     "Publish",
+    "Reading",
     "Refund",
     "RefusedError",
     "Reply",
     "Report",
     "Reports",
     "Row",
+    "Seed",
     "Sent",
+    "Slow",
+    "Stale",
+    "Step",
     "Summary",
     "Terms",
     "Tick",
@@ -60,6 +97,7 @@ __all__ = [
     "Unkept",
     "Unlock",
     "Wait",
+    "Wallet",
     "agreed_digest",
     "parse",
 ]

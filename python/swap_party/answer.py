@@ -2,11 +2,11 @@
 from __future__ import annotations
 
 from collections.abc import Iterable, Iterator
-from dataclasses import dataclass
+from dataclasses import dataclass, field
 from hashlib import sha256
 from typing import Union
 
-from .calls import BYTE, Call, Hashkey, Reply, Unlock, call_of
+from .calls import BYTE, MOST_NUMBER, Call, Hashkey, Publish, Reply, Unlock, call_of
 from .lines import Lines, demand, fixed, hexadecimal, joined, number
 
 
@@ -41,8 +41,8 @@ class Unkept:
 @dataclass(frozen=True)
 class Due:
     """The call may be presented on that arc's ledger by the party of that number. `by` is the last
-    height at which it is on time, and `until`, of an unlock, the last at which the contract accepts
-    it."""
+    height at which it is on time. `until` is the last at which the contract accepts an unlock, or
+    at which a published contract opens."""
 
     arc: int
     party: int
@@ -70,12 +70,15 @@ class Keep:
 
 @dataclass(frozen=True)
 class Landing:
-    """A publish that is due on that arc was sent, and hasn't landed."""
+    """A publish on that arc was sent, and hasn't landed: it may, at any height. It is on time up to
+    `by`, and opens up to `until`."""
 
     arc: int
+    by: int
+    until: int
 
     def __str__(self) -> str:
-        return f"landing {self.arc}"
+        return f"landing {self.arc} {heights_words(self.by, self.until)}"
 
 
 @dataclass(frozen=True)
@@ -107,10 +110,24 @@ class Sent:
         return f"sent {self.arc}"
 
 
-Told = Union[Bad, Unkept, Due, Keep, Landing, Wait, Done]
-Note = Union[Keep, Sent]
+@dataclass(frozen=True)
+class Never:
+    """A note: what was sent on that arc before can't land any more, as another call took its
+    nonce."""
+
+    arc: int
+
+    def __str__(self) -> str:
+        return f"never {self.arc}"
+
+
+Warning = Union[Bad, Unkept]
+Told = Union[Warning, Due, Keep, Landing, Wait, Done]
+Note = Union[Keep, Sent, Never]
+WARNINGS = (Bad, Unkept)
 # The order of an answer's lines: warnings, then what is due, or else that nothing is
-PLACES: dict[type[Told], int] = {Bad: 0, Unkept: 1, Due: 2, Keep: 2, Landing: 2, Wait: 3, Done: 3}
+PLACES: dict[type[Told], int] = {Bad: 0, Unkept: 1, Keep: 2, Due: 3, Landing: 4, Wait: 5, Done: 5}
+DUE, REST = 2, 5
 
 
 def heights_words(by: int, until: int | None) -> str:
@@ -126,7 +143,7 @@ def due_of(words: list[str]) -> Due:
     demand(len(words) > 5 and words[3] == "by", "the line is no call")
     has_until = words[5] == "until"
     call = call_of(words[7:] if has_until and len(words) > 7 else words[5:])
-    demand(has_until == isinstance(call, Unlock), "an unlock alone has a last height")
+    demand(has_until == isinstance(call, (Unlock, Publish)), "an unlock and a publish alone have a last height")
     until = number(words[6]) if has_until else None
     return Due(number(words[1], BYTE), number(words[2], BYTE), call, number(words[4]), until)
 
@@ -154,7 +171,8 @@ def told_of(line: str) -> Told:
         arc, entry, lock = fixed(words, "unkept", None, None, None)
         return Unkept(number(arc, BYTE), number(entry), number(lock, BYTE))
     if kind == "landing":
-        return Landing(number(fixed(words, "landing", None)[0], BYTE))
+        arc, by, until = fixed(words, "landing", None, "by", None, "until", None)
+        return Landing(number(arc, BYTE), number(by), number(until))
     if kind == "wait":
         return Wait(number(fixed(words, "wait", None)[0])) if len(words) > 1 else Wait()
     demand(line == "done", "the line is no answer")
@@ -174,9 +192,9 @@ class Answer:
         while lines.peek() is not None:
             told.append(lines.read(told_of))
             before, last = PLACES[type(told[-2])], PLACES[type(told[-1])]
-            if before > last or before == 3 or last == 3 and before == 2:
+            if before > last or before == REST or last == REST and before >= DUE:
                 raise lines.refuse("the line doesn't stand behind the one before it")
-        if PLACES[type(told[-1])] < 2:
+        if PLACES[type(told[-1])] < DUE:
             raise lines.refuse("what is due, or that nothing is, is wanted behind the warnings")
         lines.end()
         return cls(tuple(told))
@@ -188,9 +206,15 @@ class Answer:
         return last if isinstance(last, (Wait, Done)) else None
 
     @property
-    def warnings(self) -> tuple[Bad | Unkept, ...]:
-        """What is wrong with the ledgers."""
-        return tuple(it for it in self.told if isinstance(it, (Bad, Unkept)))
+    def warnings(self) -> tuple[Warning, ...]:
+        """What is wrong with the ledgers. It stands beside what is due, and never in
+        its place."""
+        return tuple(it for it in self.told if isinstance(it, WARNINGS))
+
+    @property
+    def due(self) -> tuple[Due | Keep | Landing, ...]:
+        """What is to be done, or waited for."""
+        return tuple(it for it in self.told if isinstance(it, (Due, Keep, Landing)))
 
     def lines(self) -> Iterator[str]:
         return map(str, self.told)
@@ -204,7 +228,10 @@ class Answer:
 
 def note_of(line: str) -> Note:
     words = line.split(" ")
-    return keep_of(words) if words[0] == "keep" else Sent(number(fixed(words, "sent", None)[0], BYTE))
+    if words[0] == "keep":
+        return keep_of(words)
+    kind: type[Sent | Never] = Never if words[0] == "never" else Sent
+    return kind(number(fixed(words, words[0] if kind is Never else "sent", None)[0], BYTE))
 
 
 def agreed_digest(header: str, context: Iterable[str] = ()) -> str:
@@ -222,24 +249,48 @@ class Ledger:
 
 
 @dataclass(frozen=True)
+class Now:
+    """The height at which that arc's chain stands, final or not."""
+
+    arc: int
+    height: int
+
+    def __str__(self) -> str:
+        return f"now {self.arc} {self.height}"
+
+
+@dataclass(frozen=True)
+class Margin:
+    """In how many heights a call lands on that arc's chain."""
+
+    arc: int
+    heights: int
+
+    def __str__(self) -> str:
+        return f"margin {self.arc} {self.heights}"
+
+
+@dataclass(frozen=True)
 class Asked:
     """What a wallet hands over: the digest that its owner agreed to, what it wrote down, the deal's
     header line with the context, and each ledger next to its party as far as it saw it. The seed
-    stands in a line before it for the program, and apart for the library."""
+    stands in a line before it for the program, and apart for the library. `heights` are the chains'
+    tips, and in how many heights calls land."""
 
     agreed: str
     notes: tuple[Note, ...]
     header: str
     context: tuple[str, ...]
     ledgers: tuple[Ledger, ...]
-    seed: str | None = None
+    seed: str | None = field(default=None, repr=False)
+    heights: tuple[Now | Margin, ...] = ()
 
     @classmethod
     def parse(cls, text: str | bytes) -> Asked:
         lines, notes, context, ledgers = Lines(text), [], [], []
         seed = lines.read(seed_of) if lines.begins("seed") else None
         agreed = lines.read(agreed_of)
-        while lines.begins("keep", "sent"):
+        while lines.begins("keep", "sent", "never"):
             notes.append(lines.read(note_of))
         header = lines.next()
         while lines.begins("about"):
@@ -247,9 +298,12 @@ class Asked:
         while lines.begins("ledger"):
             arc, count = lines.read(heading_of)
             ledgers.append(Ledger(arc, tuple(lines.next() for _ in range(count))))
+        heights = []
+        while lines.begins("now", "margin"):
+            heights.append(lines.read(height_of))
         lines.exactly("end")
         lines.end()
-        return cls(agreed, tuple(notes), header, tuple(context), tuple(ledgers), seed)
+        return cls(agreed, tuple(notes), header, tuple(context), tuple(ledgers), seed, tuple(heights))
 
     def lines(self) -> Iterator[str]:
         yield from [f"seed {self.seed}"] * (self.seed is not None)
@@ -260,6 +314,7 @@ class Asked:
         for ledger in self.ledgers:
             yield f"ledger {ledger.arc} {len(ledger.lines)}"
             yield from ledger.lines
+        yield from map(str, self.heights)
         yield "end"
 
     def __str__(self) -> str:
@@ -277,6 +332,13 @@ def agreed_of(line: str) -> str:
 def heading_of(line: str) -> tuple[int, int]:
     arc, count = fixed(line.split(" "), "ledger", None, None)
     return number(arc, BYTE), number(count, (1 << 32) - 1)
+
+
+def height_of(line: str) -> Now | Margin:
+    words = line.split(" ")
+    kind: type[Now | Margin] = Now if words[0] == "now" else Margin
+    arc, heights = fixed(words, words[0], None, None)
+    return kind(number(arc, BYTE), number(heights, MOST_NUMBER))
 
 
 def kept_for(notes: Iterable[Note]) -> dict[int, Hashkey]:

@@ -1,7 +1,7 @@
 """Calls on a ledger, replies, and entries, in the words of a transcript."""
 from __future__ import annotations
 
-from dataclasses import dataclass
+from dataclasses import dataclass, field
 from typing import ClassVar, Union
 
 from .lines import SIGNATURE, demand, fixed, hexadecimal, list_word, members, number
@@ -64,9 +64,9 @@ class Hashkey:
     hexadecimal."""
 
     lock: int
-    secret: str
+    secret: str = field(repr=False)
     path: tuple[int, ...]
-    sigs: tuple[str, ...]
+    sigs: tuple[str, ...] = field(repr=False)
 
     @classmethod
     def of(cls, words: list[str]) -> Hashkey:

@@ -8,6 +8,7 @@ from functools import cached_property
 from hashlib import sha256
 from typing import Any
 
+from .calls import Publish
 from .lines import DIGEST, WordError, demand, name
 
 TIMELOCKS, HASHKEYS = "timelocks", "hashkeys"
@@ -107,6 +108,11 @@ class Header:
     @property
     def horizon(self) -> int:
         return self.start + (2 * self.bound + 2) * self.delta
+
+    def publish(self, arc: int) -> Publish:
+        """The correct terms of an arc's contract."""
+        locks = tuple(it.hashlock.lower() for it in self.leaders)
+        return Publish(self.start, self.delta, self.bound, self.arcs[arc].timelock or 0, self.arcs[arc].amount, locks)
 
     def deal_bytes(self) -> bytes:
         """docs/FORMATS.md, 'The deal bytes'."""

@@ -53,14 +53,17 @@ class Pays:
 
 @dataclass(frozen=True)
 class Gets:
-    """The party is paid so many units on that arc's ledger."""
+    """The party is paid so many units on that arc's ledger, whose locks may be opened up to a
+    height. It has claimed by another, where it is paid."""
 
     arc: int
     name: str
     amount: int
+    open_until: int
+    claim_by: int
 
     def __str__(self) -> str:
-        return f"gets {self.arc} {self.name} {self.amount}"
+        return f"gets {self.arc} {self.name} {self.amount} open until {self.open_until} claim by {self.claim_by}"
 
 
 @dataclass(frozen=True)
@@ -76,13 +79,26 @@ class About:
 
 @dataclass(frozen=True)
 class Leads:
+    """The party leads that lock, and shows its secret up to that height or never."""
+
     lock: int
+    show_by: int
 
     def __str__(self) -> str:
-        return f"leads {self.lock}"
+        return f"leads {self.lock} show by {self.show_by}"
 
 
-Term = Union[Pays, Gets, About, Leads]
+@dataclass(frozen=True)
+class Awake:
+    """Up to which height the party's wallet may have something to do."""
+
+    until: int
+
+    def __str__(self) -> str:
+        return f"awake until {self.until}"
+
+
+Term = Union[Pays, Gets, About, Leads, Awake]
 
 
 def term_of(line: str) -> Term:
@@ -91,13 +107,16 @@ def term_of(line: str) -> Term:
         arc, to, amount, by, back = fixed(words, "pays", None, None, None, "publish", "by", None, "back", None)
         return Pays(number(arc, BYTE), name(to), number(amount, MOST_UNITS), number(by), number(back))
     if words[0] == "gets":
-        arc, payer, amount = fixed(words, "gets", None, None, None)
-        return Gets(number(arc, BYTE), name(payer), number(amount, MOST_UNITS))
+        arc, payer, amount, last, claim = fixed(words, "gets", None, None, None, "open", "until", None, "claim", "by", None)
+        return Gets(number(arc, BYTE), name(payer), number(amount, MOST_UNITS), number(last), number(claim))
     if words[0] == "about":
         about = line.split(" ", 2)
         demand(len(about) == 3 and about[2], "the line is no context")
         return About(number(about[1], BYTE), about[2])
-    return Leads(number(fixed(words, "leads", None)[0], BYTE))
+    if words[0] == "awake":
+        return Awake(number(fixed(words, "awake", "until", None)[0]))
+    lock, show = fixed(words, "leads", None, "show", "by", None)
+    return Leads(number(lock, BYTE), number(show))
 
 
 @dataclass(frozen=True)

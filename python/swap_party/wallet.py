@@ -6,17 +6,22 @@ from __future__ import annotations
 import ctypes
 import os
 import re
+import shutil
 import subprocess
+import threading
 from collections.abc import Callable, Iterable
+from enum import Enum
 from pathlib import Path
 from typing import Any, Protocol
 
 from .header import Header
 from .lines import WordError
 
-DONE, SHORT, WARNED, REFUSED, NO_MEMORY, TOO_LONG = 0, 1, 2, 3, 6, 7
-TEXT_LIMIT, SHORT_LIMIT, NAME_LIMIT, SEED_SIZE, ID_SIZE = 150_994_944, 1_048_576, 16, 32, 32
+DONE, SHORT, WARNED, REFUSED, NO_MEMORY, TOO_LONG, WRONG_WORDS = 0, 1, 2, 3, 6, 7, 8
+TEXT_LIMIT, SHORT_LIMIT, NAME_LIMIT, SEED_SIZE, ID_SIZE = 566_231_040, 1_048_576, 16, 32, 32
 BEFORE = b"swap: refused: "
+# The longest buffer that a thread keeps between calls
+MOST_KEPT = 1 << 24
 # The reasons whose first word is a line's number
 OF_A_LINE = re.compile(rb"(NotJson|Missing|WrongKind|UnknownField|BadName|Duplicate|Unknown|OverLimit|WrongHex|BadLine) ([0-9]+)(?= |$)")
 
@@ -42,8 +47,20 @@ class NoAnswerError(RuntimeError):
         self.status = status
 
 
+class Build(Enum):
+    """What is known of what answers: that it is the program that the gate proves, that it is built
+    of the same sources without their proofs, or that it is the model."""
+
+    PROVED = "proved"
+    UNPROVED = "not proved"
+    MODEL = "a model"
+
+
 class Party(Protocol):
     """What answers a wallet. Each call is a function of its arguments."""
+
+    def build(self) -> Build:
+        """Which build it is."""
 
     def keys(self, name: str, seed: bytes, offer: str) -> str:
         """The row of a party for the deal of an offer's line. A seed is for one swap."""
@@ -107,8 +124,10 @@ class Library:
         self._terms = self._call(it.swap_party_terms, Said, [*text, *text, *out])
         self._next = self._call(it.swap_party_next, Said, [*text, *text, ctypes.c_char_p, *out])
         self._check = self._call(it.swap_party_check, Said, [*text, *out])
+        self._answer = self._call(it.swap_party_answer, Said, [*text, *text, *out])
         self.version = self._call(it.swap_party_version, ctypes.c_char_p, [])().decode()
         self._limit = self._call(it.swap_party_limit, ctypes.c_size_t, [ctypes.c_uint32])
+        self._room = threading.local()
         self._status_text = self._call(it.swap_party_status_text, ctypes.c_char_p, [ctypes.c_uint32])
 
     @staticmethod
@@ -121,6 +140,9 @@ class Library:
         """Whether it is the build that the gate proves."""
         return bool(self.version.endswith(" proved"))
 
+    def build(self) -> Build:
+        return Build.PROVED if self.is_proved else Build.UNPROVED
+
     def limit(self, which: int) -> int:
         return int(self._limit(which))
 
@@ -128,13 +150,15 @@ class Library:
         return bytes(self._status_text(status)).decode()
 
     def said(self, call: Callable[..., Any], *words: object) -> tuple[int, bytes]:
-        """The status and the text of a call, which is made again where the buffer was too short."""
-        out = ctypes.create_string_buffer(1 << 14)
+        """The status and the text of a call, which is made again where the buffer was too short.
+        Each thread has a buffer, which grows."""
+        out = getattr(self._room, "buffer", None) or ctypes.create_string_buffer(1 << 16)
         said = call(*words, out, len(out))
         if said.status == SHORT:
-            out = ctypes.create_string_buffer(said.length)
+            out = ctypes.create_string_buffer(max(said.length, 2 * len(out)))
             said = call(*words, out, len(out))
-        return said.status, out.raw[: said.length]
+        self._room.buffer = out if len(out) <= MOST_KEPT else None
+        return said.status, ctypes.string_at(out, said.length)
 
     def keys_said(self, name: bytes, seed: bytes, text: bytes) -> tuple[int, bytes]:
         """What the library answers, as it stands."""
@@ -151,6 +175,10 @@ class Library:
 
     def check_said(self, header: bytes) -> tuple[int, bytes]:
         return self.said(self._check, header, len(header))
+
+    def answer_said(self, words: bytes, text: bytes) -> tuple[int, bytes]:
+        """What the library answers for the program `swap` (`swap_party.program`)."""
+        return self.said(self._answer, words, len(words), text, len(text))
 
     def keys(self, name: str, seed: bytes, offer: str) -> str:
         return answered(*self.keys_said(name.encode(), seed, ended(offer).encode())).decode()
@@ -179,10 +207,20 @@ class Program:
         self.party = os.fspath(party or os.environ.get("PARTY") or "party")
         self.swap = os.fspath(swap or os.environ.get("SWAP") or "swap")
 
+    def build(self) -> Build:
+        """What the launcher tells of it, or else where it lies: a script that isn't the launcher is
+        the model."""
+        told = subprocess.run([self.party], stdin=subprocess.DEVNULL, capture_output=True, check=False, env={**os.environ, "SWAP_TELL": "1"}).stderr
+        path = Path(shutil.which(self.party) or self.party).resolve()
+        if b"by the model" in told or path.parent.name == "model":
+            return Build.MODEL
+        return Build.UNPROVED if b"isn't proved" in told or path.parent.name == "unproved" else Build.PROVED
+
     @staticmethod
     def _run(words: list[str], text: bytes) -> tuple[int, bytes]:
         """The status, and what was written, or else told in the last line."""
-        ended = subprocess.run(words, input=text, capture_output=True, check=False)
+        # (a launcher of the repository says nothing of its own then)
+        ended = subprocess.run(words, input=text, capture_output=True, check=False, env={**os.environ, "SWAP_PLAIN": "1"})
         return ended.returncode, ended.stdout if ended.returncode in (0, 1) else ended.stderr.splitlines(True)[-1] if ended.stderr else b""
 
     def _run_seeded(self, words: list[str], seed: bytes, text: str) -> str:

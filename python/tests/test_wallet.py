@@ -4,6 +4,7 @@ from __future__ import annotations
 import json
 import os
 import signal
+import sqlite3
 import subprocess
 import sys
 from collections.abc import Callable
@@ -13,22 +14,27 @@ import pytest
 from random_texts import TOP
 
 from swap_party import (
+    Agreement,
     Answer,
     Asked,
     Bad,
+    DisagreedError,
     Due,
     Hashkey,
     Header,
+    InUseError,
     Keep,
     Landing,
     Ledger,
     Library,
+    Never,
     Note,
     Notes,
     Party,
     Program,
     RefusedError,
     Row,
+    Seed,
     Sent,
     Terms,
     Wait,
@@ -57,7 +63,7 @@ def test_answers(party: Party) -> None:
     assert [type(it) for it in answer.told] == [Due]
     assert answer.rest is None
     landing = Answer.parse(party.next("alice", SEEDS["alice"], asked(Sent(0))))
-    assert landing.told == (Landing(0),)
+    assert landing.told == (Landing(0, 10, 30),)
     waiting = Answer.parse(party.next("bob", SEEDS["bob"], asked()))
     assert waiting.rest == Wait()
     assert party.check(HEADER.line) == HEADER.deal_id()
@@ -94,7 +100,7 @@ def test_agrees(party: Party) -> None:
 
 @pytest.mark.parametrize("party", answering(), ids=lambda it: type(it).__name__)
 def test_refuses(party: Party) -> None:
-    rows = [("nobody", "", "Unknown 3 nobody"), ("alice", "keep\n", "BadLine 3"), ("bob", "sent 1\nsent 300\n", "BadLine 4")]
+    rows = [("nobody", "", "Unknown 3 nobody"), ("alice", "keep\n", "BadLine 3"), ("bob", "sent 300\nsent 1\n", "BadLine 3")]
     for name, notes, reason in rows:
         with pytest.raises(RefusedError) as refused:
             party.next(name, SEEDS["alice"], asked().replace("\n", f"\n{notes}", 1))
@@ -122,6 +128,59 @@ def test_notes(tmp_path: Path) -> None:
         assert notes.lines() == ["sent 0", str(Keep(KEY, 30, 40))]
         assert notes.has_sent(0)
         assert not notes.has_sent(1)
+
+
+def test_notes_are_one_process_alone(tmp_path: Path) -> None:
+    """A second wallet with the same notes is refused, and nobody else may read them."""
+    path = tmp_path / "notes"
+    with Notes(path):
+        with pytest.raises(InUseError):
+            Notes(path)
+        assert (path.stat().st_mode & 0o777, path.with_name("notes.lock").stat().st_mode & 0o777) == (0o600, 0o600)
+    with Notes(path), sqlite3.connect(path, timeout=0) as other, pytest.raises(sqlite3.OperationalError):
+        other.execute("insert into notes (line) values ('sent 1')")
+
+
+def test_one_hashkey_for_a_lock(tmp_path: Path) -> None:
+    """The table itself refuses a second one."""
+    path = tmp_path / "notes"
+    with Notes(path) as notes:
+        notes.add(Keep(KEY, 30, 40))
+    with sqlite3.connect(path) as other, pytest.raises(sqlite3.IntegrityError):
+        other.execute("insert into notes (line, lock) values ('keep 0', 0)")
+
+
+def test_an_agreement_is_made_once(tmp_path: Path) -> None:
+    agreement = Agreement("alice", HEADER.line, ("about 0 some chain",))
+    with Notes(tmp_path / "notes") as notes:
+        assert notes.agreement is None
+        notes.agree(agreement)
+        notes.agree(agreement)
+    with Notes(tmp_path / "notes") as notes:
+        assert notes.agreement == agreement
+        with pytest.raises(DisagreedError):
+            notes.agree(agreement._replace(context=()))
+
+
+def test_notes_of_a_ledger(tmp_path: Path) -> None:
+    """How high it was seen only grows, and what was sent may be replaced and sent again."""
+    with Notes(tmp_path / "notes") as notes:
+        added: list[Note] = [Sent(0), Never(0), Never(0), Sent(0), Sent(0)]
+        for note in added:
+            notes.add(note)
+        for height in (3, 2, 5, 4):
+            notes.see(0, height)
+        assert notes.seen == {0: 5}
+        assert notes.notes == [Sent(0), Never(0), Sent(0)]
+        assert notes.has_sent(0)
+        notes.unsee([0])
+        assert notes.seen == {}
+
+
+def test_nothing_secret_is_shown(tmp_path: Path) -> None:
+    seed = Seed(b"x" * 32)
+    told = repr([seed, KEY, Keep(KEY, 1, 2), Asked(AGREED, (), HEADER.line, (), (), seed.bytes.hex())])
+    assert not any(it in told for it in (seed.bytes.hex(), repr(seed.bytes), "aaaa", "bbbb"))
 
 
 def test_notes_survive_a_kill(tmp_path: Path) -> None:

@@ -1,0 +1,3 @@
+module swapparty
+
+go 1.19
