@@ -25,30 +25,31 @@ DOCUMENTS = sorted(pages_in(TOP))
 # how many words a page may have; one that isn't named here may have FEW
 BUDGETS: Dict[str, int] = {
     "README.md": 900,
-    "docs/THEOREM.md": 1300,
+    "docs/THEOREM.md": 1500,
     "docs/DEFINITIONS.md": 5600,
-    "docs/FORMATS.md": 5950,
-    "docs/GLOSSARY.md": 850,
-    "docs/READING.md": 950,
-    "docs/USING.md": 250,
-    "docs/using/exchange.md": 750,
-    "docs/using/day.md": 550,
-    "docs/using/auditor.md": 700,
-    "docs/using/contract.md": 1500,
-    "docs/using/wallet.md": 1700,
-    ARCHITECTURE: 1850,
-    f"{MAINTAINERS}/DECISIONS.md": 1450,
+    "docs/FORMATS.md": 6500,
+    "docs/GLOSSARY.md": 900,
+    "docs/READING.md": 1050,
+    "docs/USING.md": 470,
+    "docs/using/exchange.md": 650,
+    "docs/using/day.md": 850,
+    "docs/using/auditor.md": 950,
+    "docs/using/contract.md": 2050,
+    "docs/using/wallet.md": 2000,
+    ARCHITECTURE: 1950,
+    f"{MAINTAINERS}/DECISIONS.md": 1750,
     f"{MAINTAINERS}/PROOFS.md": 1550,
-    PROVED: 2650,
+    PROVED: 2850,
     f"{MAINTAINERS}/GATE.md": 400,
     PLANTS: 600,
-    "examples/README.md": 1150,
+    "examples/README.md": 1250,
     "examples/GALLERY.md": 1050,
     "bench/README.md": 600,
     "tests/README.md": 400,
-    "CONTRIBUTING.md": 600,
+    "examples/vectors/README.md": 600,
+    "CONTRIBUTING.md": 650,
 }
-FEW, TOTAL = 550, 35000
+FEW, TOTAL = 550, 38000
 WIDTH, ROW = 100, 250
 BEGIN, END = "<!-- written by .ci/documents --write -->", "<!-- up to here -->"
 DEFINITIONS, STATED_OVER = "docs/DEFINITIONS.md", "docs/STATED_OVER.txt"

@@ -116,17 +116,21 @@ def named_in(text: str, imports: Dict[str, Named]) -> Iterator[Named]:
                 yield way, real or second
 
 
-def clauses_of(function: str) -> str:
-    """The contract of a public function of the whole program."""
-    contract = re.search(rf"(?ms)^pub fn {function}<.*?^\{{", text_of("crates/swap_main/src/top.rt"))
+def clauses_of(function: str, file: str = "crates/swap_main/src/top.rt") -> str:
+    """The contract of a function of the whole program."""
+    contract = re.search(rf"(?ms)^(?:pub )?fn {function}<.*?^\{{", text_of(file))
     return re.sub(r"//.*", "", contract[0]) if contract else ""
 
 
 def roots() -> Iterator[Named]:
-    """What the clauses of both calls name, and what the program's own strategies stand for."""
+    """What the clauses of both calls and of `serve` name, and what the program's own strategies stand
+    for.
+    """
     top, strategies = TOP / "crates/swap_main/src/top.rt", TOP / "crates/swap_main/src/program.rt"
     yield from named_in(clauses_of("swap_plain") + clauses_of("swap_top"), imports_of(top))
     yield from named_in("is_known by_rule program_rule", imports_of(strategies))
+    program = "crates/swap/src/main.rt"
+    yield from named_in(clauses_of("serve", program), imports_of(TOP / program))
 
 
 def read_list() -> Set[Tuple[str, Tuple[str, ...], Optional[str]]]:
@@ -163,7 +167,7 @@ def list_lines() -> Iterator[str]:
     """The list, a paragraph for each crate."""
     seen = read_list()
     yield "What the theorem is stated over: by crate, lowest first, the files of its specs/, and the declared types of its src/ (.rt)."
-    yield "Written by .ci/documents --write: what the clauses of swap_plain and swap_top name, what that names, and so on."
+    yield "Written by .ci/documents --write: what the clauses of swap_plain, swap_top and serve name, what that names, and so on."
     yield ""
     for crate in CRATES:
         files = sorted({parts[0] for at, parts, _ in seen if at == crate and parts[0] != "declared"})

@@ -1,8 +1,10 @@
 /* Settles a swap whose parties all keep to the protocol, by the library alone: one process plays
    them in turn, and its ledgers are texts in its memory.
 
-   usage: settle < LINES > TRANSCRIPT     LINES: the header as a transcript has it, and then each
-   party's name and seed, a line each
+   usage: settle [KILLS] < LINES > TRANSCRIPT     LINES: the header as a transcript has it, and then
+   each party's name and seed, a line each
+
+   With KILLS every so many lines a wallet is killed behind what it wrote down, and starts again.
 
    What is due to a party that keeps to the protocol is accepted, so each call is written down as
    accepted; if one weren't, the next answer would be a refusal, as the library replays every
@@ -13,6 +15,7 @@
 #include <string.h>
 
 #include "swap_party.h"
+#include "swap_party_line.h"
 
 enum { ARCS = 128, PARTIES = 32, WORD = 17, DIGITS = 64 };
 
@@ -36,7 +39,7 @@ typedef struct {
 static char header[1 << 20];
 static party parties[PARTIES];
 static ledger ledgers[ARCS];
-static int party_count, arc_count;
+static int party_count, arc_count, kills, obeyed;
 
 static void stop(const char *why) {
     fprintf(stderr, "settle: %s\n", why);
@@ -81,30 +84,35 @@ static void enter(int arc, const char *entry) {
     ledgers[arc].count++;
 }
 
+static int is_killed(void) { return kills && ++obeyed % kills == 0; }
+
 /* Keeps what is to be kept and writes down a publish, before anything goes out, and presents a
-   call: whether that was anything. */
-static int obey(party *me, const char *line) {
-    int arc, number, at = 0, behind = 0;
-    if (!strncmp(line, "keep ", 5)) {
-        say(&me->notes, line);
+   call: whether the wallet lives. */
+static int obey(party *me, const swap_party_line *line) {
+    size_t noted = me->notes.length;
+    char words[32];
+    text entry = {0};
+    if (line->kind == SWAP_PARTY_LINE_KEEP) {
+        add(&me->notes, (const char *)line->text, line->length);
         say(&me->notes, "\n");
-    } else if (sscanf(line, "call %d %d by %*d %n", &arc, &number, &at) == 2 && at) {
-        char note[32];
-        text entry = {0};
-        /* (an unlock says until when it is accepted) */
-        if (!sscanf(line + at, "until %*d %n", &behind))
-            at += behind;
-        snprintf(note, sizeof note, "sent %d\n", arc);
-        if (!strncmp(line + at, "publish ", 8))
-            say(&me->notes, note);
-        snprintf(note, sizeof note, "c %d ", number);
-        say(&entry, note);
-        say(&entry, line + at);
-        add(&entry, " = accepted\n", 13);
-        enter(arc, entry.bytes);
-        free(entry.bytes);
-    } else
+        return !is_killed();
+    }
+    if (!line->call)
+        return 1;
+    snprintf(words, sizeof words, "sent %u\n", (unsigned)line->arc);
+    if (line->kind == SWAP_PARTY_LINE_PUBLISH)
+        say(&me->notes, words);
+    if (is_killed()) {
+        /* (this ledger takes a call at once or never: it never went out) */
+        me->notes.length = noted;
         return 0;
+    }
+    snprintf(words, sizeof words, "c %u ", (unsigned)line->party);
+    say(&entry, words);
+    add(&entry, (const char *)line->call, line->call_length);
+    add(&entry, " = accepted\n", 13);
+    enter((int)line->arc, entry.bytes);
+    free(entry.bytes);
     return 1;
 }
 
@@ -118,7 +126,7 @@ static char *answered(const party *me, int is_next, const char *asked, size_t le
         swap_party_said said = is_next ? swap_party_next(told, length, name, strlen(me->name), me->seed, out, answer.room)
                                        : swap_party_terms(told, length, name, strlen(me->name), out, answer.room);
         answer.length = said.length;
-        if (said.status == SWAP_PARTY_DONE)
+        if (said.status == SWAP_PARTY_DONE || said.status == SWAP_PARTY_WARNED)
             break;
         if (said.status != SWAP_PARTY_SHORT) {
             fwrite(answer.bytes, 1, said.status == SWAP_PARTY_REFUSED ? said.length : 0, stderr);
@@ -137,18 +145,29 @@ static void agree(party *me) {
         stop("the terms have no digest");
 }
 
-/* Asks the library what is due, and obeys it line by line: whether anything was. */
+/* Asks the library what is due, and obeys it line by line as long as the wallet lives: whether
+   anything was due. */
 static int turn(party *me) {
     static text asked;
-    int acted = 0;
+    const char *answer;
+    size_t at = 0;
+    int acted = 0, lives = 1;
+    swap_party_line line;
     asked.length = 0;
     say(&asked, "agreed ");
     say(&asked, me->agreed);
     say(&asked, "\n");
     add(&asked, me->notes.bytes, me->notes.length);
     tell(&asked, me);
-    for (char *line = strtok(answered(me, 1, asked.bytes, asked.length), "\n"); line; line = strtok(NULL, "\n"))
-        acted |= obey(me, line);
+    answer = answered(me, 1, asked.bytes, asked.length);
+    while (lives && swap_party_line_next((const uint8_t *)answer, strlen(answer), &at, &line)) {
+        if (swap_party_line_is_warning(&line))
+            fprintf(stderr, "%s: %.*s\n", me->name, (int)line.length, (const char *)line.text);
+        else if (line.kind == SWAP_PARTY_LINE_KEEP || line.call) {
+            acted = 1;
+            lives = obey(me, &line);
+        }
+    }
     return acted;
 }
 
@@ -179,9 +198,10 @@ static void read_lines(void) {
     }
 }
 
-int main(void) {
+int main(int count, char **words) {
     uint8_t id[32];
     text told = {0};
+    kills = count > 1 ? atoi(words[1]) : 0;
     read_lines();
     if (swap_party_check((uint8_t *)header, strlen(header), id, sizeof id).status != SWAP_PARTY_DONE)
         stop("the header's deal isn't accepted");

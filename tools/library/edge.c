@@ -6,6 +6,7 @@
 #define swap_party_terms edge_terms
 #define swap_party_next edge_next
 #define swap_party_check edge_check
+#define swap_party_answer edge_answer
 #define swap_party_version edge_version
 #define swap_party_limit edge_limit
 #define swap_party_status_text edge_status_text
@@ -15,6 +16,7 @@
 #undef swap_party_terms
 #undef swap_party_next
 #undef swap_party_check
+#undef swap_party_answer
 
 /* The proved functions. */
 swap_party_said swap_party_keys(const uint8_t *text, size_t text_length,
@@ -30,6 +32,9 @@ swap_party_said swap_party_next(const uint8_t *text, size_t text_length,
                                 const uint8_t *seed, uint8_t *out, size_t capacity);
 swap_party_said swap_party_check(const uint8_t *header, size_t header_length,
                                  uint8_t *out, size_t capacity);
+swap_party_said swap_party_answer(const uint8_t *words, size_t words_length,
+                                  const uint8_t *input, size_t input_length,
+                                  uint8_t *out, size_t capacity);
 
 /* Of the C library. The kit has no headers. */
 void *malloc(size_t size);
@@ -151,6 +156,15 @@ CLEARS swap_party_said edge_check(const uint8_t *header, size_t header_length,
     return said;
 }
 
+CLEARS swap_party_said edge_answer(const uint8_t *words, size_t words_length,
+                                   const uint8_t *input, size_t input_length,
+                                   uint8_t *out, size_t capacity) {
+    swap_party_said said = swap_party_answer(there(words), words_length, there(input), input_length,
+                                             out ? out : nothing, capacity);
+    overwrite_stack();
+    return said;
+}
+
 const char *edge_version(void) { return SWAP_PARTY_VERSION " " SWAP_PARTY_BUILD; }
 
 size_t edge_limit(uint32_t which) {
@@ -188,6 +202,8 @@ const char *edge_status_text(uint32_t status) {
         return "no memory";
     case SWAP_PARTY_TOO_LONG:
         return "too long";
+    case SWAP_PARTY_WRONG_WORDS:
+        return "the words ask for nothing that is answered here";
     default:
         return "unknown status";
     }

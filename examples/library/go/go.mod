@@ -1,3 +1,7 @@
 module settle
 
 go 1.19
+
+require swapparty v1.1.0
+
+replace swapparty => ../../../bindings/go

@@ -1,6 +1,8 @@
-// Settles a swap whose parties all keep to the protocol, by the library alone, as settle.c does.
+// Settles a swap whose parties all keep to the protocol, by the module swapparty, as settle.c does.
 //
-// usage: settle < LINES > TRANSCRIPT
+// usage: settle [KILLS] < LINES > TRANSCRIPT
+//
+// With KILLS every so many lines a wallet is killed behind what it wrote down, and starts again.
 package main
 
 import (
@@ -9,12 +11,15 @@ import (
 	"encoding/json"
 	"fmt"
 	"os"
+	"strconv"
 	"strings"
+
+	"swapparty"
 )
 
 type party struct {
 	name, agreed, notes string
-	seed                []byte
+	seed                swapparty.Seed
 }
 
 type ledger struct {
@@ -27,6 +32,7 @@ type swap struct {
 	Arcs                []ledger
 	Start, Delta, Bound int
 	parties             []*party
+	kills, obeyed       int
 }
 
 func read(lines *bufio.Scanner) (*swap, error) {
@@ -42,7 +48,7 @@ func read(lines *bufio.Scanner) (*swap, error) {
 		if err != nil {
 			return nil, err
 		}
-		it.parties = append(it.parties, &party{name: name, seed: seed})
+		it.parties = append(it.parties, &party{name: name, seed: swapparty.Seed(*(*[32]byte)(seed))})
 	}
 	return it, lines.Err()
 }
@@ -63,7 +69,7 @@ func (it *swap) told(name string) string {
 // Keeps the digest of each party's terms, to which here every owner agrees as they are.
 func (it *swap) agree() error {
 	for _, me := range it.parties {
-		answer, err := terms(it.header+"\n", me.name)
+		answer, err := swapparty.Terms(it.header+"\n", me.name)
 		if err != nil {
 			return err
 		}
@@ -76,37 +82,51 @@ func (it *swap) agree() error {
 	return nil
 }
 
-// Keeps what is to be kept, writes down a publish before it goes out, and presents a call.
-func (it *swap) obey(me *party, line string) bool {
-	var arc, number int
-	words := strings.SplitN(line, " ", 6)
-	switch words[0] {
-	case "keep":
-		me.notes += line + "\n"
-	case "call":
-		call := words[5]
-		fmt.Sscan(words[1]+" "+words[2], &arc, &number)
-		// (an unlock says until when it is accepted)
-		if strings.HasPrefix(call, "until ") {
-			call = strings.SplitN(call, " ", 3)[2]
-		}
-		if strings.HasPrefix(call, "publish ") {
-			me.notes += fmt.Sprintf("sent %d\n", arc)
-		}
-		it.Arcs[arc].entries = append(it.Arcs[arc].entries, fmt.Sprintf("c %d %s = accepted\n", number, call))
-	default:
+// Whether the wallet is killed behind what it just wrote down.
+func (it *swap) isKilled() bool {
+	it.obeyed++
+	return it.kills > 0 && it.obeyed%it.kills == 0
+}
+
+// Keeps what is to be kept, writes down a publish before it goes out, and presents a call: whether
+// the wallet lives.
+func (it *swap) obey(me *party, line swapparty.Line) bool {
+	switch line.Kind {
+	case swapparty.Landing:
+		return true
+	case swapparty.Keep:
+		me.notes += line.Text + "\n"
+		return !it.isKilled()
+	}
+	sent := fmt.Sprintf("sent %d\n", line.Arc)
+	if line.Kind == swapparty.Publish {
+		me.notes += sent
+	}
+	if it.isKilled() {
+		// (this ledger takes a call at once or never: it never went out)
+		me.notes = strings.ReplaceAll(me.notes, sent, "")
 		return false
 	}
+	entries := &it.Arcs[line.Arc].entries
+	*entries = append(*entries, fmt.Sprintf("c %d %s = accepted\n", line.Party, line.Call))
 	return true
 }
 
+// Asks what is due, and obeys as long as the wallet lives: whether anything was.
 func (it *swap) turn(me *party) (bool, error) {
-	answer, err := next("agreed "+me.agreed+"\n"+me.notes+it.told(me.name), me.name, me.seed)
-	acted := false
-	for _, line := range strings.Split(answer, "\n") {
-		acted = it.obey(me, line) || acted
+	answer, err := swapparty.Next("agreed "+me.agreed+"\n"+me.notes+it.told(me.name), me.name, me.seed)
+	if err != nil {
+		return false, err
 	}
-	return acted, err
+	for _, warning := range answer.Warnings {
+		fmt.Fprintln(os.Stderr, me.name, warning.Line)
+	}
+	for _, line := range answer.Lines {
+		if !it.obey(me, line) {
+			break
+		}
+	}
+	return len(answer.Lines) > 0, nil
 }
 
 func (it *swap) settle() error {
@@ -130,8 +150,11 @@ func (it *swap) settle() error {
 
 func main() {
 	it, err := read(bufio.NewScanner(os.Stdin))
+	if err == nil && len(os.Args) > 1 {
+		it.kills, err = strconv.Atoi(os.Args[1])
+	}
 	if err == nil {
-		_, err = check(it.header)
+		_, err = swapparty.Check(it.header)
 	}
 	if err == nil {
 		err = it.agree()

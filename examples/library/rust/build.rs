@@ -1,8 +1,8 @@
-//! Finds the library where `tools/install --prefix DIR` laid it, by SWAP_PARTY_PREFIX.
+//! Lets the program find the library where it runs, as the crate finds it to link.
 
 fn main() {
-    println!("cargo:rerun-if-env-changed=SWAP_PARTY_PREFIX");
-    if let Ok(prefix) = std::env::var("SWAP_PARTY_PREFIX") {
-        println!("cargo:rustc-link-search=native={prefix}/lib");
+    println!("cargo:rerun-if-env-changed=SWAP_PARTY_LIB");
+    if let Ok(folder) = std::env::var("SWAP_PARTY_LIB") {
+        println!("cargo:rustc-link-arg=-Wl,-rpath,{folder}");
     }
 }

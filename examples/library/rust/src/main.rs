@@ -1,15 +1,16 @@
-//! Settles a swap whose parties all keep to the protocol, by the library alone, as settle.c does.
+//! Settles a swap whose parties all keep to the protocol, by the crate `swap-party`, as settle.c does.
 //!
-//! usage: settle < LINES > TRANSCRIPT
-
-mod library;
+//! usage: settle [KILLS] < LINES > TRANSCRIPT
+//!
+//! With KILLS every so many lines a wallet is killed behind what it wrote down, and starts again.
 
 use std::fmt::Write as _;
 use std::io::{Read, Write};
+use swap_party::{Call, Line, Seed};
 
 struct Party {
     name: String,
-    seed: [u8; 32],
+    seed: Seed,
     agreed: String,
     notes: String,
 }
@@ -23,6 +24,8 @@ struct Swap {
     header: String,
     ledgers: Vec<Ledger>,
     parties: Vec<Party>,
+    kills: u32,
+    obeyed: u32,
 }
 
 /// What stands behind a field's name in compact JSON, up to a sign.
@@ -38,17 +41,17 @@ fn party(line: &str) -> Result<Party, String> {
         let pair = digits.get(2 * at..2 * at + 2).ok_or("a seed is too short")?;
         *byte = u8::from_str_radix(pair, 16).map_err(|why| why.to_string())?;
     }
-    Ok(Party { name: name.into(), seed, agreed: String::new(), notes: String::new() })
+    Ok(Party { name: name.into(), seed: Seed(seed), agreed: String::new(), notes: String::new() })
 }
 
 impl Swap {
-    fn read(text: &str) -> Result<Swap, String> {
+    fn read(text: &str, kills: u32) -> Result<Swap, String> {
         let (header, lines) = text.split_once('\n').ok_or("no header")?;
         let ledger = |arc| -> Result<Ledger, String> {
             Ok(Ledger { ends: [field(arc, "from", '"')?.into(), field(arc, "to", '"')?.into()], entries: Vec::new() })
         };
         let ledgers = header.match_indices("\"from\":").map(|(at, _)| ledger(&header[at..]));
-        Ok(Swap { header: header.into(), ledgers: ledgers.collect::<Result<_, _>>()?, parties: lines.lines().map(party).collect::<Result<_, _>>()? })
+        Ok(Swap { header: header.into(), ledgers: ledgers.collect::<Result<_, _>>()?, parties: lines.lines().map(party).collect::<Result<_, _>>()?, kills, obeyed: 0 })
     }
 
     fn number(&self, name: &str) -> Result<u64, String> {
@@ -69,37 +72,52 @@ impl Swap {
     fn agree(&mut self) -> Result<(), String> {
         let header = format!("{}\n", self.header);
         for party in &mut self.parties {
-            let terms = library::terms(&header, &party.name)?;
+            let terms = swap_party::terms(&header, &party.name).map_err(|why| why.to_string())?;
             party.agreed = terms.lines().find_map(|it| it.strip_prefix("agree ")).ok_or("the terms have no digest")?.into();
         }
         Ok(())
     }
 
-    /// Keeps what is to be kept, writes down a publish before it goes out, and presents a call.
-    fn obey(&mut self, who: usize, line: &str) -> Result<bool, String> {
-        let notes = &mut self.parties[who].notes;
-        let words: Vec<&str> = line.splitn(6, ' ').collect();
-        match words[..] {
-            ["keep", ..] => *notes += &format!("{line}\n"),
-            ["call", arc, number, "by", _, call] => {
-                // (an unlock says until when it is accepted)
-                let call = call.strip_prefix("until ").and_then(|it| it.split_once(' ')).map_or(call, |it| it.1);
-                if call.starts_with("publish ") {
-                    *notes += &format!("sent {arc}\n");
-                }
-                let arc: usize = arc.parse().map_err(|_| "no arc")?;
-                self.ledgers[arc].entries.push(format!("c {number} {call} = accepted\n"));
-            }
-            _ => return Ok(false),
-        }
-        Ok(true)
+    /// Whether the wallet is killed behind what it just wrote down.
+    fn is_killed(&mut self) -> bool {
+        self.obeyed += 1;
+        self.kills > 0 && self.obeyed % self.kills == 0
     }
 
+    /// Keeps what is to be kept, writes down a publish before it goes out, and presents a call:
+    /// whether the wallet lives.
+    fn obey(&mut self, who: usize, line: &Line) -> bool {
+        match line {
+            Line::Keep(line) => {
+                self.parties[who].notes += &format!("{line}\n");
+                !self.is_killed()
+            }
+            Line::Due(due) => {
+                let sent = format!("sent {}\n", due.arc);
+                if matches!(due.call, Call::Publish(_)) {
+                    self.parties[who].notes += &sent;
+                }
+                if self.is_killed() {
+                    // (this ledger takes a call at once or never: it never went out)
+                    self.parties[who].notes = self.parties[who].notes.replace(&sent, "");
+                    return false;
+                }
+                self.ledgers[usize::from(due.arc)].entries.push(format!("c {} {} = accepted\n", due.party, due.call.words()));
+                true
+            }
+            Line::Landing { .. } => true,
+        }
+    }
+
+    /// Asks what is due, and obeys as long as it lives: whether anything was.
     fn turn(&mut self, who: usize) -> Result<bool, String> {
         let party = &self.parties[who];
         let text = format!("agreed {}\n{}{}", party.agreed, party.notes, self.told(Some(&party.name)));
-        let lines = library::next(text.as_bytes(), &party.name, &party.seed)?;
-        lines.lines().try_fold(false, |acted, line| Ok(self.obey(who, line)? | acted))
+        let answer = swap_party::next(&text, &party.name, &party.seed).map_err(|why| why.to_string())?;
+        for warning in &answer.warnings {
+            eprintln!("{}: {warning:?}", party.name);
+        }
+        Ok(answer.lines.iter().take_while(|line| self.obey(who, line)).count() > 0 || !answer.lines.is_empty())
     }
 
     fn settle(&mut self) -> Result<(), String> {
@@ -115,8 +133,9 @@ impl Swap {
 fn settled() -> Result<String, String> {
     let mut text = String::new();
     std::io::stdin().read_to_string(&mut text).map_err(|why| why.to_string())?;
-    let mut swap = Swap::read(&text)?;
-    library::check(&swap.header)?;
+    let kills = std::env::args().nth(1).map_or(Ok(0), |it| it.parse()).map_err(|_| "KILLS is no number")?;
+    let mut swap = Swap::read(&text, kills)?;
+    swap_party::check(&swap.header).map_err(|why| why.to_string())?;
     swap.agree()?;
     swap.settle()?;
     Ok(format!("swap transcript 1\n{}", swap.told(None)))
