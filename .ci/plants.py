@@ -1,7 +1,7 @@
 """The bugs that were planted by hand, in files beside the page that counts them."""
 import re
 from pathlib import Path
-from typing import Dict, Iterator, Tuple
+from typing import Dict, Iterable, Iterator, Tuple
 
 from pages import MAINTAINERS, TOP, Line, code_in
 from tree import CRATES, WORD, functions_of, words_of
@@ -51,12 +51,19 @@ def counted(crate: str, file: Path) -> Tuple[int, int, int]:
 
 
 def planted_lines() -> Iterator[str]:
-    """The table of PLANTS."""
-    rows = {crate: counted(crate, file) for crate, file in planted().items()}
-    functions, bugs, through = map(sum, zip(*rows.values()))
-    rows["all"] = functions, bugs, through
+    """The table of PLANTS: the crates of which something was let through, and the others together."""
+    counts = {crate: counted(crate, file) for crate, file in planted().items()}
+    told = {crate: row for crate, row in counts.items() if row[2]}
+    others = [row for crate, row in counts.items() if crate not in told]
+    rows = [*sorted(told.items(), key=lambda it: (-it[1][1], it[0])), (f"{len(others)} others", added(others)), ("all", added(counts.values()))]
     yield "```"
     yield f"{'crate':<20}functions  bugs  through"
-    for crate, row in sorted(rows.items(), key=lambda it: (it[0] == "all", -it[1][1], it[0])):
+    for crate, row in rows:
         yield f"{crate:<20}{row[0]:9}{row[1]:6}{row[2]:9}"
     yield "```"
+
+
+def added(rows: Iterable[Tuple[int, int, int]]) -> Tuple[int, int, int]:
+    """The sums of each column."""
+    functions, bugs, through = map(sum, zip(*rows))
+    return functions, bugs, through

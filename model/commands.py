@@ -10,6 +10,7 @@ from .agreeing import MOST_SHORT, deal_text, keys_text, terms_text
 from .clearing import cleared
 from .hashes import hashlock_of, public_key, secret_of
 from .drawn import plain_job
+from .judging import MOST_JUDGED, judgement_text
 from .many import many
 from .offer import MOST_EVENTS, PLAIN, Offer, Refused, header_of, job_of, lines_of, refuse
 from .play import race, run
@@ -22,7 +23,7 @@ if TYPE_CHECKING:
 
 USAGE = ("usage: swap check | run [--transcript] | race [--ticks K] [--transcript] | audit | make"
          " | gen --seed S --parties N --events E [--summary] | clear | many")
-PARTY_USAGE = "usage: party keys NAME | deal | terms NAME | next NAME"
+PARTY_USAGE = "usage: party keys NAME | deal | terms NAME | next NAME | judge [--json]"
 FOUND_NOTHING, FOUND, WRONG_WORDS, REFUSED, READ_FAULT, WRITE_FAULT, NO_MEMORY, TOO_LONG = range(8)
 
 
@@ -175,19 +176,22 @@ def takes_input(words: list[str]) -> bool:
 
 
 PartyCommand = Callable[[bytes, str], Tuple[bytes, int]]
-# By the first word and the number of words, since each command but `deal` has the name of a party
-# behind it: the command, and the most bytes of its input
+# By the first word and the number of words, since each command but `deal` and `judge` has the name
+# of a party behind it: the command, and the most bytes of its input
 PARTY_COMMANDS: dict[tuple[str, int], tuple[PartyCommand, int]] = {
     ("keys", 2): (keys_text, MOST_SHORT),
     ("deal", 1): (deal_text, MOST_SHORT),
     ("terms", 2): (terms_text, MOST_SHORT),
     ("next", 2): (wallet_lines, MOST_ASKED),
+    ("judge", 1): (judgement_text, MOST_JUDGED),
 }
 
 
 def party_command(words: list[str]) -> Optional[tuple[PartyCommand, int]]:
     """The command of the program `party` that words ask for, with the most bytes of its input, or
     None."""
+    if words == ["judge", "--json"]:
+        return judgement_text, MOST_JUDGED
     return PARTY_COMMANDS.get((words[0], len(words))) if words else None
 
 

@@ -82,7 +82,7 @@ class Telling:
         """Whether it is a call of the party that was refused, and may be made again."""
         if said[0] != b"c" or self.is_foreign(said) or is_accepted(said):
             return False
-        return said[2:3] == [b"publish"] and said[-3:-1] == [b"=", b"NoFunds"] or b"".join(said[2:3]) in REPEATED
+        return said[2:3] == [b"publish"] and b"NoFunds" in said or b"".join(said[2:3]) in REPEATED
 
     def is_first_call(self, said: list[bytes]) -> bool:
         """Whether it is somebody else's accepted call where no contract stands, on an arc that enters

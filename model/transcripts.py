@@ -147,6 +147,11 @@ def transcript_of(reader: Reader) -> tuple[Offer, list[list[Stated]]]:
     """The offer of a transcript and the entries of its ledgers."""
     reader.read(exactly, "swap transcript 1")
     offer = header_of(reader.next(), reader.number, STATED)
+    return offer, ledgers_of(reader, offer)
+
+
+def ledgers_of(reader: Reader, offer: Offer) -> list[list[Stated]]:
+    """The entries of an offer's ledgers, by all further lines."""
     stated = []
     for arc in offer.deal.arcs:
         count = reader.read(count_of, arc)
@@ -154,7 +159,7 @@ def transcript_of(reader: Reader) -> tuple[Offer, list[list[Stated]]]:
     reader.read(exactly, "end")
     if reader.number < len(reader.lines) or reader.rest:
         refuse("BadLine", reader.number + 1)
-    return offer, stated
+    return stated
 
 
 # ---- a replay

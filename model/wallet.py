@@ -2,16 +2,16 @@
 docs/FORMATS.md, 'A wallet's lines'."""
 from __future__ import annotations
 
-from typing import Iterator, NamedTuple, Optional, TYPE_CHECKING, Union
+from typing import Iterable, Iterator, NamedTuple, Optional, TYPE_CHECKING, Union
 
 from .agreeing import party_of, read_agreed, seed_of, whole_lines
 from .hashes import Hashkey
-from .ledger import CLAIM, PUBLISH, REFUND, UNLOCK, Call, expiry, last_accepted, what_is_wrong
+from .ledger import CLAIM, MOST_HEIGHT, PUBLISH, REFUND, UNLOCK, Call, expiry, last_accepted, what_is_wrong
 from .offer import is_given, refuse
 from .rules import View, all_useful, claim_reference, publish_reference, refund_reference, rest_until, unlock_reference
 from .telling import landing_heights, tellings
 from .texts import call_words, joined
-from .transcripts import demand, digest, members, numeral
+from .transcripts import BadForm, demand, digest, members, numeral
 
 if TYPE_CHECKING:
     from .deal import Deal
@@ -22,17 +22,25 @@ BYTE = 255
 MOST_NUMBER = (1 << 64) - 1
 # the most bytes that are read: what the largest deal needs
 MOST_ASKED = 566_231_040
-NOTE_WORDS = b"keep", b"sent", b"never"
+NOTE_WORDS = b"keep", b"sent", b"seen", b"never"
+
+
+class Torn(NamedTuple):
+    """A line of a hashkey for that lock that can't be read."""
+
+    lock: int
 
 
 class Noted(NamedTuple):
-    """A line about an arc: a publish on it was sent, or what was sent never lands."""
+    """A line about an arc: a publish on it was sent, or never lands, or the height at which it was
+    seen."""
 
     word: str
     arc: int
+    height: int = 0
 
 
-Note = Union[Hashkey, Noted]
+Note = Union[Hashkey, Torn, Noted]
 
 
 # ---- lines
@@ -44,56 +52,91 @@ def agreed_of(line: str) -> bytes:
 
 
 def note_of(line: str) -> Note:
-    """What a line notes: a hashkey that was kept, as it was answered, or an arc. The heights of a
-    hashkey are numbers, whichever."""
+    """What a line notes."""
     word, *said = line.split(" ")
-    if word != "keep":
-        demand(len(said) == 1)
-        return Noted(word, numeral(said[0], BYTE))
-    demand(len(said) == 8 and said[1] == "by" and said[3] == "until")
-    lock, _, by, _, until, secret, path, signatures = said
+    if word == "keep":
+        return kept_of(said)
+    demand(len(said) == (2 if word == "seen" else 1))
+    return Noted(word, numeral(said[0], BYTE), numeral(said[1], MOST_HEIGHT) if word == "seen" else 0)
+
+
+def kept_of(said: list[str]) -> Union[Hashkey, Torn]:
+    """A hashkey that was kept, as it was answered, or that its line is torn behind the lock. Its
+    heights are numbers, whichever."""
+    demand(bool(said))
+    lock = numeral(said[0], BYTE)
+    try:
+        return hashkey_of(lock, said[1:])
+    except BadForm:
+        return Torn(lock)
+
+
+def hashkey_of(lock: int, said: list[str]) -> Hashkey:
+    demand(len(said) == 7 and said[0] == "by" and said[2] == "until")
+    _, by, _, until, secret, path, signatures = said
     for height in by, until:
         numeral(height, MOST_NUMBER)
     parties = tuple(numeral(it, BYTE) for it in members(path))
-    return Hashkey(numeral(lock, BYTE), digest(secret), parties, tuple(digest(it, 4288) for it in members(signatures)))
+    return Hashkey(lock, digest(secret), parties, tuple(digest(it, 4288) for it in members(signatures)))
+
+
+def has_note(reader: Reader) -> bool:
+    return any(map(reader.has_word, NOTE_WORDS))
 
 
 def notes_in(reader: Reader) -> list[tuple[int, Note]]:
     """The notes with the numbers of their lines, up to the first line that begins with none of the
-    words."""
+    words. The last one may be torn."""
     notes: list[tuple[int, Note]] = []
-    while any(map(reader.has_word, NOTE_WORDS)):
-        notes.append((reader.number + 1, reader.read(note_of)))
+    while has_note(reader):
+        line, number = reader.next(), reader.number
+        try:
+            notes.append((number, note_of(line.decode("latin-1"))))
+        except BadForm:
+            if has_note(reader):
+                refuse("BadLine", number)
     return notes
 
 
 # ---- what is asked
 
 class Journal:
-    """What a wallet wrote down: the hashkeys that it kept, by their locks, and the arcs on which a
-    publish was sent, and may land."""
+    """What a wallet wrote down: the hashkeys that it kept, by their locks; the locks that stop; the
+    arcs on which a publish was sent, and may land; and the greatest height at which each ledger was
+    seen."""
 
     def __init__(self, deal: Deal, party: int) -> None:
         self.deal, self.party = deal, party
         self.kept: dict[int, Hashkey] = {}
+        self.stopped: set[int] = set()
         self.sent: set[int] = set()
+        self.seen: dict[int, int] = {}
 
     def take(self, line: int, note: Note) -> None:
         """Takes a note of that line, which says what may be."""
         if isinstance(note, Noted):
-            if note.arc not in self.deal.leaving[self.party]:
+            allowed: Iterable[int] = self.deal.arcs if note.word == "seen" else self.deal.leaving[self.party]
+            if note.arc not in allowed:
                 refuse("BadLine", line)
-            (self.sent.add if note.word == "sent" else self.sent.discard)(note.arc)
-        elif not self.is_keepable(note):
+            self.take_noted(note)
+        elif note.lock not in self.deal.locks:
             refuse("BadLine", line)
+        elif isinstance(note, Torn) or not self.is_keepable(note):
+            self.stopped.add(note.lock)
         else:
             self.kept[note.lock] = note
 
+    def take_noted(self, note: Noted) -> None:
+        if note.word == "seen":
+            self.seen[note.arc] = max(note.height, self.seen.get(note.arc, 0))
+        elif note.word == "sent":
+            self.sent.add(note.arc)
+        else:
+            self.sent.discard(note.arc)
+
     def is_keepable(self, hashkey: Hashkey) -> bool:
-        """A hashkey may stand among the notes that is for a lock of the deal, and is the one that was
-        kept for it before, or opens it on the first arc that enters the party."""
-        if hashkey.lock not in self.deal.locks:
-            return False
+        """A hashkey may stand among the notes that is the one that was kept for its lock before, or
+        opens it on the first arc that enters the party."""
         if hashkey.lock in self.kept:
             return self.kept[hashkey.lock] == hashkey
         return what_is_wrong(self.deal, self.deal.entering[self.party][0], self.deal.hashlocks[hashkey.lock], hashkey) is None
@@ -156,23 +199,31 @@ class Asking:
         self.deal = journal.deal
         self.view = View(self.deal, [it.ledger for it in told], [len(it.ledger.entries) for it in told])
         self.near = self.deal.touching[self.party]
+        self.stale = [arc for arc in self.near if self.view.height(arc) < journal.seen.get(arc, 0)]
         self.unkept = unkept_unlocks(told, self.party, journal.kept)
-        self.stopped = {lock for _, _, lock in self.unkept}
+        self.stopped = journal.stopped | {lock for _, _, lock in self.unkept}
         self.landing = [arc for arc in self.deal.leaving[self.party] if arc in journal.sent and not self.view.calls(self.party, arc, PUBLISH)]
 
     def warnings(self) -> Iterator[str]:
-        """The ledgers that are read up to a bad entry, and the unlocks that the party didn't make."""
+        """The ledgers that were seen higher, the locks that stop, the unlocks that the party didn't
+        make, and the ledgers that are read up to a bad entry."""
+        for arc in self.stale:
+            yield "stale %d %d" % (arc, self.journal.seen[arc])
+        for lock in sorted(self.journal.stopped):
+            yield "unkept %d" % lock
+        for each in self.unkept:
+            yield "unkept %d %d %d" % each
         for it in self.told:
             if it.bad is not None:
                 yield " ".join(["bad", *map(str, (it.ledger.arc, *it.bad))])
-        for each in self.unkept:
-            yield "unkept %d %d %d" % each
 
     def may_go(self, arc: int, call: Call) -> bool:
-        """Whether a call isn't sent already, nor stopped."""
+        """Whether no warning stands against a call."""
         if call.kind == PUBLISH:
-            return arc not in self.landing
-        return call.kind != UNLOCK or call.stated.lock not in self.stopped
+            return not self.stale and arc not in self.landing
+        if call.kind == UNLOCK and call.stated.lock in self.stopped:
+            return False
+        return arc not in self.stale
 
     def due_lines(self, seed: bytes) -> Iterator[str]:
         """A line for each hashkey that must be kept first, for each useful call that may go out, and
@@ -181,7 +232,7 @@ class Asking:
         useful = [(arc, call) for arc, call in all_useful(view, party, seed, kept, self.at) if self.may_go(arc, call)]
         asked: set[int] = set()
         for arc, call in useful:
-            if call.kind == UNLOCK and call.stated.lock not in kept and call.stated.lock not in asked:
+            if call.kind == UNLOCK and call.stated.lock not in kept and call.stated.lock not in asked and not self.stale:
                 asked.add(call.stated.lock)
                 _, lock, key = call_words(call).split(" ", 2)
                 yield "keep %s %s %s" % (lock, heights_of(view, party, arc, call), key)
@@ -201,6 +252,8 @@ class Asking:
 
     def end_line(self) -> str:
         """What is said where nothing is due."""
+        if self.stale:
+            return "wait"
         if all(map(self.is_finished, self.near)):
             return "done"
         until = rest_until(self.view, self.party)

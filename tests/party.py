@@ -22,15 +22,16 @@ sys.path[1:1] = [str(Path(HERE).parent), str(Path(HERE).parent / "python")]
 from model.agreeing import MOST_SHORT  # noqa: E402
 from model.commands import answer  # noqa: E402
 from model.hashes import Hashkey, extended, secret_of  # noqa: E402
+from model.judging import MOST_JUDGED  # noqa: E402
 from model.ledger import UNLOCK, Call  # noqa: E402
 from model.offer import STATED, header_of  # noqa: E402
 from model.texts import call_words  # noqa: E402
 from model.wallet import MOST_ASKED  # noqa: E402
-from swap_party import Transcript  # noqa: E402
+from swap_party import Judgement, Transcript  # noqa: E402
 
 Offer = Dict[str, Any]
 
-USAGE = b"swap: wrong words\nusage: party keys NAME | deal | terms NAME | next NAME\n"
+USAGE = b"swap: wrong words\nusage: party keys NAME | deal | terms NAME | next NAME | judge [--json]\n"
 
 
 def lines() -> bytes:
@@ -38,7 +39,9 @@ def lines() -> bytes:
 
 
 def takes_its_words(program: Program) -> None:
-    wrong: list[list[str]] = [[], ["alice"], [""], ["next"], ["keys"], ["terms"], ["deal", "alice"], ["next", "alice", "bob"], ["Next", "alice"]]
+    wrong: list[list[str]] = [[], ["alice"], [""], ["next"], ["keys"], ["terms"], ["deal", "alice"], ["judge", "alice"]]
+    wrong += [["judge", "--JSON"], ["judge", "--json", "--json"], ["--json", "judge"], ["deal", "--json"]]
+    wrong += [["next", "alice", "bob"], ["Next", "alice"]]
     wrong += [["alice", "next"]]
     for words in wrong:
         found = program.run(words, lines())
@@ -60,6 +63,14 @@ def reads_short_inputs(program: Program) -> None:
         for more, wanted in (0, b"swap: refused: CutShort\n"), (1, b"swap: too long\n"):
             found = program.run(words, b"x" * (MOST_SHORT + more))
             must((found.out, found.err) == (b"", wanted), f"{words} {more}: {found}")
+
+
+def reads_whole_cases(program: Program) -> None:
+    """As many bytes as what is judged may have, and one more."""
+    text = (Path(HERE) / "deals" / "by_hand.case").read_bytes()
+    for more, wanted in (0, b"swap: refused: BadLine 20\n"), (1, b"swap: too long\n"):
+        found = program.run(["judge"], text.ljust(MOST_JUDGED + more - 1, b"x") + b"\n")
+        must((found.out, found.err) == (b"", wanted), f"{more}: {found}")
 
 
 def is_cut_short(program: Program) -> None:
@@ -305,8 +316,10 @@ def notes_of(chance: random.Random, me: int, seen: list[list[str]]) -> list[str]
                 kept.setdefault(words[3], f"keep {words[3]} {heights} {' '.join(words[4:7])}")
             if words[:3] == ["c", str(me), "publish"] and chance.random() < 0.7:
                 sent.append(f"sent {arc}")
-    never = [f"never {it.split(' ')[1]}" for it in sent if chance.random() < 0.2]
-    notes = [*kept.values(), *sent, *never] * chance.randint(1, 2)
+    noted = [f"seen {chance.randrange(len(seen))} {chance.randint(0, 60)}" for _ in range(chance.choice([0, 0, 0, 1, 2]))]
+    noted += [f"never {it.split(' ')[1]}" for it in sent if chance.random() < 0.2]
+    torn = [it[: chance.randint(6, len(it))] for it in kept.values() if chance.random() < 0.05]
+    notes = [*kept.values(), *sent, *noted, *torn] * chance.randint(1, 2)
     chance.shuffle(notes)
     return notes
 
@@ -349,14 +362,28 @@ def answers_at_any_moment(job: str, program: Program) -> None:
         must(found.status in (0, 1) and found.out, f"{found.err!r}: {text[:2000]}")
 
 
+def judges_in_json(program: Program) -> None:
+    """The JSON of a judgement says what its lines say, with the same status."""
+    texts = [(Path(HERE) / "deals" / f"{name}.case").read_bytes() for name in ("by_hand", "useless")]
+    texts += [it.replace(b'"manual"', b'"conforming"') for it in texts]
+    stored = sorted((Path(HERE).parent / "examples" / "vectors" / "transcripts").glob("*.transcript"))
+    texts += [it.read_bytes().partition(b"\n")[2] for it in stored]
+    for text in texts:
+        told, written = program.run(["judge"], text), program.run(["judge", "--json"], text)
+        must(told.status == written.status, f"the status is {told.status}, and as JSON {written.status}")
+        must(told.err == written.err, f"the reason is {told.err!r}, and as JSON {written.err!r}")
+        if told.status < 2:
+            must(Judgement.parse(told.out).json().encode() == written.out, f"the JSON is {written.out!r}")
+
+
 ENEMIES = isnt_flooded_by_long_unlocks, isnt_flooded_by_many_calls, bounds_its_own_calls, withholds_of_a_follower
 LIMITS = (
-    takes_its_words, takes_the_longest_header, takes_the_most_context, reads_the_most, reads_short_inputs, is_cut_short, reads_pieces,
-    writes_a_prefix,
+    takes_its_words, takes_the_longest_header, takes_the_most_context, reads_the_most, reads_short_inputs, reads_whole_cases, is_cut_short, reads_pieces,
+    writes_a_prefix, judges_in_json,
 )  # fmt: skip
 
 
-TABLES = tuple(f"party/{name}" for name in ("keys", "deal", "terms", "answers", "landing", "notes", "enemies", "refusals"))
+TABLES = tuple(f"party/{name}" for name in ("keys", "deal", "terms", "answers", "landing", "notes", "enemies", "refusals", "judge"))
 
 
 def tests() -> Tests:

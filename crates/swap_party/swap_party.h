@@ -37,10 +37,11 @@ extern "C" {
 /* The version of this header, which isn't the release's: VERSION has that. The first number grows
    where a program has to be compiled again, the second where something is added. */
 #define SWAP_PARTY_VERSION_MAJOR 1
-#define SWAP_PARTY_VERSION_MINOR 2
-#define SWAP_PARTY_VERSION "1.2"
+#define SWAP_PARTY_VERSION_MINOR 3
+#define SWAP_PARTY_VERSION "1.3"
 
 #define SWAP_PARTY_TEXT_LIMIT 566231040 /* the most bytes of a text for next */
+#define SWAP_PARTY_CASE_LIMIT 150994944 /* the most bytes of a text for judge */
 #define SWAP_PARTY_SHORT_LIMIT 1048576  /* the most bytes of a text for keys, deal, terms, check */
 #define SWAP_PARTY_NAME_LIMIT 16       /* the most bytes of a party's name in a header */
 #define SWAP_PARTY_SEED_SIZE 32        /* the bytes of a seed */
@@ -51,7 +52,8 @@ extern "C" {
 enum {
     SWAP_PARTY_DONE = 0,      /* `out` begins with the answer */
     SWAP_PARTY_SHORT = 1,     /* `out` is too short and stays as it was: it needs `length` bytes */
-    SWAP_PARTY_WARNED = 2,    /* `out` begins with the answer, which has a `bad` or an `unkept` line */
+    SWAP_PARTY_WARNED = 2,    /* `out` begins with the answer, which warns or finds something: `stale`,
+                                 `unkept`, `bad` or `finding` */
     SWAP_PARTY_REFUSED = 3,   /* `out` begins with the line of the reason: swap: refused: .. */
     SWAP_PARTY_NO_MEMORY = 6, /* malloc answered null; `out` stays as it was */
     SWAP_PARTY_TOO_LONG = 7,  /* the text is longer than its limit; `out` stays as it was */
@@ -66,7 +68,8 @@ enum {
     SWAP_PARTY_LIMIT_ID = 3,
     SWAP_PARTY_LIMIT_STACK = 4,
     SWAP_PARTY_LIMIT_WIPED = 5,
-    SWAP_PARTY_LIMIT_SHORT = 6
+    SWAP_PARTY_LIMIT_SHORT = 6,
+    SWAP_PARTY_LIMIT_CASE = 7
 };
 
 typedef struct {
@@ -103,6 +106,12 @@ swap_party_said swap_party_next(const uint8_t *text, size_t text_length,
                                 const uint8_t seed[SWAP_PARTY_SEED_SIZE],
                                 uint8_t *out, size_t capacity);
 
+/* What is found of all ledgers: what `party judge` writes. `text` is a deal's header line, lines of
+   context, a line `agreed NAME DIGEST` for each party that told its digest, and all ledgers as a
+   transcript has them, up to its line `end`. The status is WARNED where anything is found. */
+swap_party_said swap_party_judge(const uint8_t *text, size_t text_length,
+                                 uint8_t *out, size_t capacity);
+
 /* The id of the deal that a header line states, where it is an accepted deal. The header is as a
    transcript has it, without anybody's seed. */
 swap_party_said swap_party_check(const uint8_t *header, size_t header_length,
@@ -118,7 +127,7 @@ swap_party_said swap_party_answer(const uint8_t *words, size_t words_length,
                                   const uint8_t *input, size_t input_length,
                                   uint8_t *out, size_t capacity);
 
-/* The version of the library that was linked, a space, and `proved` or `unproved`: "1.2 proved".
+/* The version of the library that was linked, a space, and `proved` or `unproved`: "1.3 proved".
    An unproved build is compiled from the same sources, without their proofs. */
 const char *swap_party_version(void);
 

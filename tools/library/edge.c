@@ -5,6 +5,7 @@
 #define swap_party_deal edge_deal
 #define swap_party_terms edge_terms
 #define swap_party_next edge_next
+#define swap_party_judge edge_judge
 #define swap_party_check edge_check
 #define swap_party_answer edge_answer
 #define swap_party_version edge_version
@@ -15,6 +16,7 @@
 #undef swap_party_deal
 #undef swap_party_terms
 #undef swap_party_next
+#undef swap_party_judge
 #undef swap_party_check
 #undef swap_party_answer
 
@@ -30,6 +32,8 @@ swap_party_said swap_party_terms(const uint8_t *text, size_t text_length,
 swap_party_said swap_party_next(const uint8_t *text, size_t text_length,
                                 const uint8_t *name, size_t name_length,
                                 const uint8_t *seed, uint8_t *out, size_t capacity);
+swap_party_said swap_party_judge(const uint8_t *text, size_t text_length,
+                                 uint8_t *out, size_t capacity);
 swap_party_said swap_party_check(const uint8_t *header, size_t header_length,
                                  uint8_t *out, size_t capacity);
 swap_party_said swap_party_answer(const uint8_t *words, size_t words_length,
@@ -106,8 +110,11 @@ static __attribute__((noinline)) void overwrite_stack(void) {
 
 /* ---- the calls */
 
-/* Registers that a caller may not rely on are cleared at the end of such a function. */
+/* Registers that a caller may not rely on are cleared at the end of such a function. A target
+   without registers defines it as nothing. */
+#ifndef CLEARS
 #define CLEARS __attribute__((zero_call_used_regs("all")))
+#endif
 
 static uint8_t nothing[1];
 
@@ -148,6 +155,14 @@ CLEARS swap_party_said edge_next(const uint8_t *text, size_t text_length,
     return said;
 }
 
+CLEARS swap_party_said edge_judge(const uint8_t *text, size_t text_length,
+                                  uint8_t *out, size_t capacity) {
+    swap_party_said said = swap_party_judge(there(text), text_length,
+                                            out ? out : nothing, capacity);
+    overwrite_stack();
+    return said;
+}
+
 CLEARS swap_party_said edge_check(const uint8_t *header, size_t header_length,
                                   uint8_t *out, size_t capacity) {
     swap_party_said said = swap_party_check(there(header), header_length,
@@ -183,6 +198,8 @@ size_t edge_limit(uint32_t which) {
         return SWAP_PARTY_STACK_WIPED;
     case SWAP_PARTY_LIMIT_SHORT:
         return SWAP_PARTY_SHORT_LIMIT;
+    case SWAP_PARTY_LIMIT_CASE:
+        return SWAP_PARTY_CASE_LIMIT;
     default:
         return 0;
     }

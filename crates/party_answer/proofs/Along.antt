@@ -3,8 +3,8 @@ use Rattle.std.proofs.Common.{◌≡◌, ℕ, ◌<◌, List, length, get_or, sym
 use Rattle.swap_base.specs.Lists.{IsElement}
 use Rattle.swap_base.proofs.Lists.{in_map, in_place}
 use Rattle.swap_digraph.specs.declared.deal.Deal.{Deal}
-use Rattle.party_answer.specs.declared.due_call.DueCall.{DueCall}
-use Rattle.party_answer.specs.Actions.{actions, due_call_action}
+use Rattle.useful_calls.specs.declared.due_call.DueCall.{DueCall}
+use Rattle.useful_calls.specs.Actions.{actions, due_call_action}
 use Rattle.answer_rules.specs.Heights.{IsShort}
 use Rattle.party_answer.specs.Inside.{AreMeasured}
 

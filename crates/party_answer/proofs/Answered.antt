@@ -1,31 +1,31 @@
 -- What is promised of an answer.
-use Rattle.std.proofs.Common.{◌≡◌, ◌⊎◌, ℕ, ◌<◌, ◌≤◌, ◌+◌, ◌&&◌, ◌||◌, not, length, Bool, true, false, List, [], ◌++◌, Option, Some, Result, Ok, refl, sym, ap, ◌∙◌}
-use Rattle.std.proofs.Common.{◌∷◌, subst, inl, inr, arith}
-use Rattle.std.specs.List.{flat_map}
+use Rattle.std.proofs.Common.{◌≡◌, ◌≢◌, ◌⊎◌, ℕ, ◌<◌, ◌≤◌, ◌+◌, ◌&&◌, ◌||◌, not, length, Bool, true, false, List, [], ◌++◌, Option, Some, Result, Ok, refl, sym, ap, ◌∙◌}
+use Rattle.std.proofs.Common.{subst, inl, inr, arith}
 use Rattle.std.proofs.lemmas.Bool.{false≢true}
 use Rattle.swap_base.specs.Lists.{IsElement}
 use Rattle.swap_base.proofs.Lists.{and_both, and_parts, from_filter, in_filter, in_flat_map, in_map}
 use Rattle.swap_digraph.specs.declared.deal.Deal.{Deal}
 use Rattle.swap_digraph.specs.declared.deal.Mode.{Mode}
 use Rattle.swap_digraph.specs.declared.deal.Mode.TheVariants.{Timelocks, Hashkeys}
-use Rattle.swap_digraph.specs.Graph.{leaving}
+use Rattle.swap_digraph.specs.Graph.{entering, leaving}
 use Rattle.hashkey_path.specs.declared.hashkey.Hashkey.{Hashkey}
 use Rattle.escrow_core.specs.declared.terms.Terms.{Terms}
 use Rattle.escrow_core.specs.Terms.{stated_terms}
 use Rattle.ledger_core.specs.declared.entry.Call.{Call}
-use Rattle.ledger_core.specs.declared.entry.Call.TheVariants.{Publish, Unlock}
+use Rattle.ledger_core.specs.declared.entry.Call.TheVariants.{Publish, Unlock, Claim, Refund}
 use Rattle.ledger_core.specs.declared.entry.Entry.{Entry}
 use Rattle.ledger_core.specs.History.{height}
 use Rattle.ledger_core.specs.Book.{Histories, history, IsLegalBook}
 use Rattle.swap_rules.specs.Accepted.{IsAccepted}
 use Rattle.swap_rules.specs.Conduct.{is_publish}
 use Rattle.swap_rules.specs.Party.{is_ready, leads_one}
-use Rattle.swap_rules.specs.Due.{Action, due, has_called, is_due_publish, when_due}
+use Rattle.swap_rules.specs.Due.{Action, due, due_arc_unlock, has_called, is_due_publish, when_due}
 use Rattle.swap_rules.specs.Machine.{IsWallet}
 use Rattle.swap_rules.specs.Rest.{are_ticks, rest_deadline, StaysLow}
 use Rattle.swap_rules.proofs.Cases.{Case, ToPublish, ToUnlock, ToClaim, ToRefund, case_of}
 use Rattle.swap_rules.proofs.Prefixes.{from_flat_map}
 use Rattle.swap_rules.proofs.Rest.{rests_below}
+use Rattle.swap_rules.specs.Useful.{PublishesLate, RevealsLate, UnlocksLate}
 use Rattle.swap_rules.proofs.Useful.{useful_is_due, only_harm_is_left_out, ticks_make_nothing_useful}
 use Rattle.wallet_promise.specs.Life.{kept_note, make_if, is_kept}
 use Rattle.wallet_promise.specs.Answers.{was_sent, MayGo, MayKeep}
@@ -45,15 +45,19 @@ use Rattle.answer_rules.proofs.Waiting.{ticks_leave_nothing}
 use Rattle.answer_rules.proofs.UsefulKinds.{nothing_in}
 use Rattle.party_answer.specs.declared.timed.Timed.{Timed}
 use Rattle.party_answer.specs.declared.given.Answer.{Answer}
-use Rattle.party_answer.specs.declared.reason.AnswerReason.{AnswerReason}
-use Rattle.party_answer.specs.Asked.{PartyQuestion, known}
-use Rattle.party_answer.specs.Landing.{may_land}
-use Rattle.party_answer.specs.Unkept.{is_lock_unkept}
+use Rattle.party_notes.specs.declared.reason.AnswerReason.{AnswerReason}
+use Rattle.party_notes.specs.Asked.{PartyQuestion, known}
+use Rattle.useful_calls.specs.Landing.{may_land}
+use Rattle.useful_calls.specs.Actions.{is_lock_stopped}
+use Rattle.party_answer.specs.Stale.{is_any, waits_for}
 use Rattle.party_answer.specs.Lines.{last_helpful, untimed, Line, Present, KeepFirst}
 use Rattle.party_answer.specs.Text.{answerable_landing, answered, answered_calls, due_text, kept_keys, answered_lines, landing_actions, landing_calls, lands_at, own_wallet}
-use Rattle.party_answer.specs.Text.{question_answer, unkept, useful_actions, useful_landing, was_published}
-use Rattle.party_answer.specs.Promised.{MayBeMade, MayBeKept, CanOnlyHurt, IsLockUnkept, IsLeftOutAction, IsNothingAnswered, IsWithinRest, HasLastHeight, OpensInTime, own_timed}
-use Rattle.party_answer.specs.Promised.{with_more, IsPromisedAnswer}
+use Rattle.party_answer.specs.Text.{question_answer, stale, stopped, unkept, unsent, useful_actions, useful_landing, was_published}
+use Rattle.party_answer.specs.Promised.{MayBeMade, MayBeKept, CanOnlyHurt, IsLockStopped, IsLeftOutAction, IsNothingAnswered, IsStale, IsWithinRest, HasLastHeight, OpensInTime, Settles, StopsItsLock, TrustsNoStaleLedger, WaitsForLedger}
+use Rattle.party_answer.specs.Promised.{own_timed, with_more, IsPromisedAnswer}
+use Rattle.party_answer.proofs.Signing.{none_kept, signing_is_stopped, unlock_in}
+use Rattle.party_answer.proofs.Stopping.{others, torn_is_stopped}
+use Rattle.party_answer.proofs.Unwaiting.{goes_on, no_publish, none_waits, on_shown, says_wait, some_stale, stale_in}
 use Rattle.party_answer.proofs.Members.{from_map, Parts, ToPresent, ToKeep, parts, from_lines, to_present, to_keep, never_empty}
 
 -- A seed signs for the lock that it is asked for.
@@ -97,7 +101,7 @@ module _ (q : PartyQuestion) (sound : IsSound q) where
   signs = seed_signs q.deal q.me q.seed
 
   abbrev is_out : Action → Bool
-  is_out x = is_stopped_call (is_lock_unkept (unkept q)) x.call
+  is_out x = is_stopped_call (is_lock_stopped (stopped q)) x.call
 
   abbrev is_sent_already : Action → Bool
   is_sent_already x = was_sent (was_published q) x
@@ -110,21 +114,25 @@ module _ (q : PartyQuestion) (sound : IsSound q) where
   to_answerable : (at : ℕ → ℕ) (k : Histories) (x : Action) → IsElement x (useful_landing q at k) → is_out x ≡ false → IsElement x (answerable_landing q at k)
   to_answerable at k x i s = in_filter (λ y. not (is_out y)) x (useful_landing q at k) i (ap not s)
 
-  -- a call of the answer is useful, isn't stopped and wasn't sent
+  -- a call of the answer is useful, isn't stopped, wasn't sent, and waits for no ledger
   pub record IsAnsweredCall (x : Action) : Type 0 where
     pub useful : IsElement x (useful_actions q (known q))
     pub goes : is_out x ≡ false
     pub unsent : is_sent_already x ≡ false
+    pub shown : waits_for (stale q) x ≡ false
 
   from_answered : (x : Action) → IsElement x (answered q) → IsAnsweredCall x
   from_answered x i =
-      let f = from_filter (λ y. not (is_sent_already y)) x (answerable_landing q (lands_at q) (known q)) i in
-      let g = from_answerable (lands_at q) (known q) x f.0 in record { useful = g.0; goes = g.1; unsent = not_true (is_sent_already x) f.1 }
+      let w = from_filter (λ y. not (waits_for (stale q) y)) x (unsent q (answerable_landing q (lands_at q) (known q))) i in
+      let f = from_filter (λ y. not (is_sent_already y)) x (answerable_landing q (lands_at q) (known q)) w.0 in
+      let g = from_answerable (lands_at q) (known q) x f.0 in
+      record { useful = g.0; goes = g.1; unsent = not_true (is_sent_already x) f.1; shown = not_true (waits_for (stale q) x) w.1 }
 
   to_answered : (x : Action) → IsAnsweredCall x → IsElement x (answered q)
   to_answered x i =
-      in_filter (λ y. not (is_sent_already y)) x (answerable_landing q (lands_at q) (known q)) (to_answerable (lands_at q) (known q) x i.useful i.goes)
-      (ap not i.unsent)
+      in_filter (λ y. not (waits_for (stale q) y)) x (unsent q (answerable_landing q (lands_at q) (known q)))
+      (in_filter (λ y. not (is_sent_already y)) x (answerable_landing q (lands_at q) (known q)) (to_answerable (lands_at q) (known q) x i.useful i.goes)
+      (ap not i.unsent)) (ap not i.shown)
 
   -- with its heights
   from_calls : (t : Timed) → IsElement t (answered_calls q) → (x : Action) × IsElement x (answered q) × (own_timed q x ≡ t)
@@ -239,7 +247,12 @@ module _ (q : PartyQuestion) (sound : IsSound q) where
   nothing_left none = nothing_in (answerable_landing q (lands_at q) (known q)) (λ x i. by x (from_answerable (lands_at q) (known q) x i) (is_sent_already x) refl)
     where
       by : (x : Action) → IsElement x (useful_actions q (known q)) × (is_out x ≡ false) → (b : Bool) → is_sent_already x ≡ b → ⊥
-      by x f false e = none_there (answered q) x (IsNothingAnswered.calls none) (to_answered x (record { useful = f.0; goes = f.1; unsent = e }))
+      by x f false e = none_there (answered q) x (IsNothingAnswered.calls none) (to_answered x (record {
+        useful = f.0;
+        goes = f.1;
+        unsent = e;
+        shown = ap (λ (s : List ℕ). waits_for s x) (IsNothingAnswered.shown none) ∙ none_waits x;
+      }))
       by x f true e =
           let d = useful_is_due q.deal q.me (lands_at q) (own_wallet q) (kept_keys q) (known q) x f.0 in
           let l = due_lands x.call x.arc (case_here x d) e in
@@ -247,16 +260,25 @@ module _ (q : PartyQuestion) (sound : IsSound q) where
 
   -- ---- nothing is left out
 
+  waiting_or : (x : Action) → IsElement x (useful_actions q (known q)) → is_sent_already x ≡ false → is_out x ≡ false → (b : Bool) → waits_for (stale q) x ≡ b
+      → IsElement x (answered q) ⊎ WaitsForLedger q x
+  waiting_or x i s o true e = inr e
+  waiting_or x i s o false e = inl (to_answered x (record { useful = i; goes = o; unsent = s; shown = e }))
+
   stopped_or : (x : Action) → IsElement x (useful_actions q (known q)) → is_sent_already x ≡ false → (b : Bool) → is_out x ≡ b
-      → IsElement x (answered q) ⊎ IsLockUnkept q x
-  stopped_or x i s true e = inr e
-  stopped_or x i s false e = inl (to_answered x (record { useful = i; goes = e; unsent = s }))
+      → IsElement x (answered q) ⊎ (IsLockStopped q x ⊎ WaitsForLedger q x)
+  stopped_or x i s true e = inr (inl e)
+  stopped_or x i s false e = go (waiting_or x i s e (waits_for (stale q) x) refl)
+    where
+      go : IsElement x (answered q) ⊎ WaitsForLedger q x → IsElement x (answered q) ⊎ (IsLockStopped q x ⊎ WaitsForLedger q x)
+      go (inl j) = inl j
+      go (inr w) = inr (inr w)
 
   answered_or : (x : Action) → IsElement x (due q.deal q.me (own_wallet q) (kept_keys q) (known q)) → is_sent_already x ≡ false
       → IsElement x (answered q) ⊎ IsLeftOutAction q x
   answered_or x i s = go (only_harm_is_left_out q.deal q.me (lands_at q) (own_wallet q) (kept_keys q) (known q) x i)
     where
-      by_stop : IsElement x (answered q) ⊎ IsLockUnkept q x → IsElement x (answered q) ⊎ IsLeftOutAction q x
+      by_stop : IsElement x (answered q) ⊎ (IsLockStopped q x ⊎ WaitsForLedger q x) → IsElement x (answered q) ⊎ IsLeftOutAction q x
       by_stop (inl j) = inl j
       by_stop (inr t) = inr (inr t)
 
@@ -288,6 +310,67 @@ module _ (q : PartyQuestion) (sound : IsSound q) where
           inl (to_keep (kept_keys q) (answered_calls q) (own_timed q (MayKeep.unlock may)) key (to_calls (MayKeep.unlock may) i)
           (ap (is_kept (kept_keys q)) unlock.0 ∙ unlock.1) unlock.0)
 
+  -- ---- stale ledgers
+
+  -- a hashkey that has to be kept first is that of an answered unlock, and none was kept
+  keeps_new : (t u : Timed) (key : Hashkey) (y : Line) → IsElement u (answered_calls q) → Parts (kept_keys q) u y → y ≡ KeepFirst t key
+      → (is_kept (kept_keys q) u.call ≡ false) × (u.call ≡ Unlock key)
+  keeps_new t u key y i (ToPresent k) e = absurd (cc e)
+  keeps_new t u key y i (ToKeep other k c) e = let same : other ≡ key = cc e in (k, subst (λ (z : Hashkey). u.call ≡ Unlock z) same c)
+
+  no_signing : (a : ℕ) (t : Timed) (key : Hashkey) → IsStale q a → IsElement (KeepFirst t key) (answered_lines q) → ⊥
+  no_signing a t key st i =
+      let s = said (KeepFirst t key) i in
+      let n = keeps_new t s.call key (KeepFirst t key) s.within s.says refl in
+      let c = call_is s.call s.within in
+      let k =
+      none_kept q.deal q.me (own_wallet q) (kept_keys q) (known q) sound.legal signs sound.good (untimed s.call) key (due_call s.call s.within) n.1
+      (sym (ap (is_kept (kept_keys q)) n.1) ∙ n.0) in
+      false≢true
+      (sym (sym (ap (is_stopped_call (is_lock_stopped (stopped q))) n.1) ∙ c.goes)
+      ∙ signing_is_stopped q.deal (kept_keys q) q.kept.stopped (unkept q) (stale q) a key.lock st k.0 k.1)
+
+  -- a claim or a refund can't hurt
+  harmless : (x : Action) → ((key : Hashkey) → x.call ≢ Unlock key) → ((terms : Terms) → x.call ≢ Publish terms) → CanOnlyHurt q x → ⊥
+  harmless x unlocks publishes (PublishesLate e late) = publishes (stated_terms q.deal x.arc) e
+  harmless x unlocks publishes (UnlocksLate i a j late) = let u = unlock_in q.deal q.me (own_wallet q) (kept_keys q i) (known q) i a x j in unlocks u.0 u.1
+  harmless x unlocks publishes (RevealsLate i j late) =
+      let f = from_flat_map (due_arc_unlock q.deal q.me (own_wallet q) (kept_keys q i) (known q) i) (entering q.deal.graph q.me) x j in
+      let u = unlock_in q.deal q.me (own_wallet q) (kept_keys q i) (known q) i f.0 x f.2 in unlocks u.0 u.1
+
+  settled : (x : Action) (c : Call) → MayBeMade q x → x.call ≡ c → is_publish (Some c) ≡ false → is_stopped_call (is_lock_stopped (stopped q)) c ≡ false
+      → (CanOnlyHurt q x → ⊥) → (IsStale q x.arc → ⊥) → IsElement (Present (own_timed q x)) (answered_lines q)
+  settled x c may e p s harm shown = go (all_made x may (ap (λ (b : Bool). b && was_published q x.arc) (ap (λ (z : Call). is_publish (Some z)) e ∙ p)))
+    where
+      go : IsElement (Present (own_timed q x)) (answered_lines q) ⊎ IsLeftOutAction q x → IsElement (Present (own_timed q x)) (answered_lines q)
+      go (inl i) = i
+      go (inr (inl h)) = absurd (harm h)
+      go (inr (inr (inl out))) = absurd (false≢true (sym (ap (is_stopped_call (is_lock_stopped (stopped q))) e ∙ s) ∙ out))
+      go (inr (inr (inr w))) = absurd (false≢true (sym (goes_on (stale q) x (ap (λ (z : Call). is_publish (Some z)) e ∙ p) shown) ∙ w))
+
+  settles : (x : Action) → MayBeMade q x → Settles x → (IsStale q x.arc → ⊥) → IsElement (Present (own_timed q x)) (answered_lines q)
+  settles x may (inl e) shown = settled x Claim may e refl refl (harmless x (λ key u. cc (sym e ∙ u)) (λ terms u. cc (sym e ∙ u))) shown
+  settles x may (inr e) shown = settled x Refund may e refl refl (harmless x (λ key u. cc (sym e ∙ u)) (λ terms u. cc (sym e ∙ u))) shown
+
+  cautious : TrustsNoStaleLedger q
+  cautious = record {
+    told = stale_in q.deal q.me (known q) q.kept.seen;
+    publishes = λ a t terms st i e. no_publish (stale q) (untimed t) a (call_is t (presents t i).0).shown st (ap (λ (c : Call). is_publish (Some c)) e);
+    signs = no_signing;
+    calls = λ t i st. on_shown (stale q) (untimed t) (call_is t (presents t i).0).shown st;
+    settles = settles;
+    rests = λ a st e f. says_wait q.deal (known q) q.me (is_any (stale q)) (answered_calls q) (landing_calls q) (some_stale (stale q) a st) e f;
+  }
+
+  -- ---- torn notes
+
+  alone : StopsItsLock q
+  alone = record {
+    torn = torn_is_stopped q;
+    silent = λ t key i e. sym (ap (is_stopped_call (is_lock_stopped (stopped q))) e) ∙ (call_is t i).goes;
+    others = others q;
+  }
+
   -- ---- heights
 
   has_height : (t : Timed) → IsElement t (answered_calls q) → HasHeight q.deal (known q) q.me (kept_keys q) (untimed t) t.last
@@ -311,7 +394,7 @@ module _ (q : PartyQuestion) (sound : IsSound q) where
   stays_waiting : (later : ℕ → ℕ) (a : ℕ) (more : List Entry) → IsNothingAnswered q → are_ticks more ≡ true → ((c : ℕ) → lands_at q c ≤ later c)
       → IsWithinRest (rest_deadline q.deal q.me (known q)) (height (history (known q) a ++ more)) → answerable_landing q later (with_more q a more) ≡ []
   stays_waiting later a more none ticks higher low =
-      ticks_leave_nothing q.deal q.me (lands_at q) later (own_wallet q) (kept_keys q) (is_lock_unkept (unkept q)) (known q) a more ticks higher
+      ticks_leave_nothing q.deal q.me (lands_at q) later (own_wallet q) (kept_keys q) (is_lock_stopped (stopped q)) (known q) a more ticks higher
       (nothing_left none) (stays_low q.deal q.me (known q) a more low)
 
   stays_done : (later : ℕ → ℕ) (h : Histories) → IsNothingAnswered q → are_finished q.deal (known q) q.me ≡ true → IsLegalBook q.deal h
@@ -341,12 +424,14 @@ module _ (q : PartyQuestion) (sound : IsSound q) where
     lands = lands;
     all = all_made;
     each = each_kept;
+    alone = alone;
+    cautious = cautious;
     heard = λ at h says. sym (same_useful q.deal q.me (known q) h says at (own_wallet q) (kept_keys q));
     rest = λ later c more none ticks higher low. ticks_make_nothing_useful q.deal q.me (lands_at q) later (own_wallet q) (kept_keys q) (known q) c more ticks
         higher none (stays_low q.deal q.me (known q) c more low);
     wait = stays_waiting;
     done = stays_done;
-    never_empty = never_empty q.deal (known q) q.me (kept_keys q) (answered_calls q) (landing_calls q);
+    never_empty = never_empty (is_any (stale q)) q.deal (known q) q.me (kept_keys q) (answered_calls q) (landing_calls q);
     by = has_height;
     until = is_until;
   }

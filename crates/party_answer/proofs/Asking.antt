@@ -1,5 +1,5 @@
 -- What is asked, and what is answered to it.
-use Rattle.std.proofs.Common.{◌≡◌, ◌≢◌, ◌<◌, ℕ, Bool, true, false, ◌||◌, ◌==◌, not, List, [], ◌∷◌, length, ◌++◌, map, None, inl, inr, Result, Ok, Err, refl, sym, ap, ◌∙◌, subst}
+use Rattle.std.proofs.Common.{◌≡◌, ◌≢◌, ◌<◌, ℕ, Bool, true, false, ◌||◌, ◌==◌, not, List, length, ◌++◌, map, inl, inr, Result, Ok, Err, refl, sym, ap, ◌∙◌, subst}
 use Rattle.std.specs.Prelude.{is_some}
 use Rattle.std.specs.List.{flat_map, list_any}
 use Rattle.std.specs.Str.{bytes_eq}
@@ -8,48 +8,43 @@ use Rattle.swap_base.specs.declared.fault.Fault.TheVariants as faults
 use Rattle.swap_base.specs.Fault.{◌>>=◌, Gives, Fails}
 use Rattle.swap_base.specs.Lists.{IsElement}
 use Rattle.swap_base.proofs.Lists.{from_filter}
-use Rattle.swap_digraph.specs.declared.deal.Deal.{Deal}
 use Rattle.swap_digraph.specs.Graph.{leaving}
-use Rattle.swap_digraph.specs.Deal.{IsWellSized}
 use Rattle.escrow_core.specs.Terms.{stated_terms}
 use Rattle.ledger_core.specs.declared.entry.Call.TheVariants.{Publish}
-use Rattle.swap_rules.specs.Accepted.{IsAccepted}
-use Rattle.ledger_core.specs.Book.{Histories, IsLegalBook}
-use Rattle.swap_rules.specs.Counted.{all_counted}
+use Rattle.ledger_core.specs.Book.{Histories}
 use Rattle.swap_rules.specs.Due.{Action, when_due}
 use Rattle.swap_rules.proofs.Prefixes.{from_flat_map}
 use Rattle.swap_rules.proofs.Words.{bytes_eq-true, leaves}
 use Rattle.wallet_promise.specs.Answers.{was_sent}
 use Rattle.command_input.specs.declared.refusal.Refusal.{Refusal}
 use Rattle.party_wallet.specs.Value.{signed_hashkey}
-use Rattle.party_wallet.specs.Fits.{wrong_lock}
 use Rattle.party_machine.specs.Wallet.{seed_wallet}
 use Rattle.party_machine.proofs.Good.{fitting_is_good}
-use Rattle.told_ledgers.specs.Telling.{told_book}
 use Rattle.answer_rules.specs.Heights.{IsShort}
-use Rattle.answer_rules.specs.Laws.{AreGoodKeys}
 use Rattle.answer_rules.specs.Stopped.{is_stopped_call, useful_unless_stopped}
 use Rattle.answer_rules.proofs.Measured.{useful_is_short}
 use Rattle.answer_rules.proofs.Stopping.{unstopped_useful}
-use Rattle.party_answer.specs.Actions.{is_lock_stopped}
-use Rattle.party_answer.specs.declared.asked.Asked.{Asked}
+use Rattle.useful_calls.specs.Actions.{is_lock_stopped}
+use Rattle.party_notes.specs.declared.asked.Asked.{Asked}
 use Rattle.party_answer.specs.declared.given.Answer.{Answer}
-use Rattle.party_answer.specs.declared.reason.AnswerReason.{AnswerReason}
-use Rattle.party_answer.specs.declared.reason.AnswerReason.TheVariants.{NotAgreed}
+use Rattle.party_notes.specs.declared.reason.AnswerReason.{AnswerReason}
+use Rattle.party_notes.specs.declared.reason.AnswerReason.TheVariants.{NotAgreed}
 use Rattle.party_answer.specs.declared.timed.Timed.{Timed}
 use Rattle.party_answer.specs.declared.unkept.Unkept.{Unkept}
-use Rattle.party_answer.specs.Asked.{PartyQuestion, SaidState, as_agreed, asked, by_refusal, known, lines_said, said_asked, text_said, unless_differs}
-use Rattle.party_answer.specs.Faults.{refusal_fault}
-use Rattle.party_answer.specs.Inside.{asked_question, calls_text, landing_timed, AreMeasured, IsWellAsked}
-use Rattle.party_answer.specs.Landing.{landing_height, may_land}
-use Rattle.party_answer.specs.Unkept.{is_lock_unkept, stopped_locks}
+use Rattle.party_notes.specs.Asked.{PartyQuestion, SaidState, as_agreed, asked, by_refusal, known, lines_said, said_asked, text_said, unless_differs}
+use Rattle.party_notes.specs.Faults.{refusal_fault}
+use Rattle.party_answer.specs.Inside.{calls_text, landing_timed, warned_text, AreMeasured}
+use Rattle.party_notes.specs.Inside.{asked_question, IsWellAsked}
+use Rattle.useful_calls.specs.Landing.{landing_height, may_land}
+use Rattle.party_answer.specs.Stale.{is_any, stale_arcs, stopped_locks, unwaiting, waits_for}
+use Rattle.party_answer.specs.declared.warned.Warned.{Warned}
 use Rattle.party_answer.specs.Lines.{timed}
-use Rattle.party_answer.specs.Text.{answer_told, answerable_landing, answered, answered_calls, bad_lines, due_text, lands_at, question_answer, said_answer, unkept, unkept_text, unsent}
+use Rattle.party_answer.specs.Text.{answer_told, answerable_landing, answered, answered_calls, bad_lines, due_text, lands_at, noted, noted_text, question_answer, said_answer, stale, stale_text, stopped, unkept, unkept_text, unsent}
 use Rattle.party_answer.specs.Text.{useful_actions, warning_text, warns, was_published}
 use Rattle.party_answer.specs.Promised.{IsPromisedAnswer, NeedsAgreement}
 use Rattle.party_rows.specs.Lines.{ended_lines}
 use Rattle.party_answer.proofs.Answered.{IsSound, holds, seed_signs}
-use Rattle.party_answer.proofs.Faults.{fails_by_refusal}
+use Rattle.party_notes.proofs.Faults.{fails_by_refusal}
 
 -- ---- what is asked is sound
 
@@ -62,73 +57,75 @@ sound seed a is = record {
   good = is.good;
 }
 
-pub is_asked : (seed : List ℕ) (d : Deal) (a : Asked) → a.deal ≡ d → IsAccepted d → IsWellSized d → a.me < d.graph.n → wrong_lock d a.me seed ≡ None
-    → IsLegalBook a.deal (all_counted a.me (told_book a.ledgers)) → length a.kept.signed.keys ≡ length d.leaders → AreGoodKeys d a.me (signed_hashkey a.kept.signed.keys)
-    → IsWellAsked seed a
-is_asked seed d a e accepted sized me fits legal places good = record {
-  accepted = subst IsAccepted (sym e) accepted;
-  sized = subst IsWellSized (sym e) sized;
-  me = subst (λ (x : Deal). a.me < x.graph.n) (sym e) me;
-  fits = subst (λ (x : Deal). wrong_lock x a.me seed ≡ None) (sym e) fits;
-  legal = legal;
-  places = subst (λ (x : Deal). length a.kept.signed.keys ≡ length x.leaders) (sym e) places;
-  good = subst (λ (x : Deal). AreGoodKeys x a.me (signed_hashkey a.kept.signed.keys)) (sym e) good;
-}
-
 -- ---- what is answered
 
--- the stopped locks are those of unlocks that were never kept
-same_stops : (us : List Unkept) → ◌≡◌ {A = ℕ → Bool} (is_lock_stopped (stopped_locks us)) (is_lock_unkept us)
-same_stops us = λ j i. (each us i) j
-  where
-    each : (us : List Unkept) (i : ℕ) → is_lock_stopped (stopped_locks us) i ≡ is_lock_unkept us i
-    each [] i = refl
-    each (u ∷ us) i = ap (λ b. (u.lock == i) || b) (each us i)
+module _ (seed : List ℕ) (a : Asked) (k : Histories) (us : List Unkept) (st stops : List ℕ) (xs ys zs : List Action) (is : IsWellAsked seed a)
+    (e : k ≡ known (asked_question seed a)) (f : us ≡ unkept (asked_question seed a)) (s : st ≡ stale (asked_question seed a))
+    (g : stops ≡ stopped_locks a.deal (signed_hashkey a.kept.signed.keys) a.kept.stopped us st)
+    (h : xs ≡ useful_unless_stopped (is_lock_stopped stops) a.deal a.me (landing_height k a.ledgers) (seed_wallet seed a.me a.deal) (signed_hashkey a.kept.signed.keys) k)
+    (u : ys ≡ unsent (asked_question seed a) xs) (w : zs ≡ unwaiting st ys) where
+  abbrev left : List ℕ → Histories → List Action
+  left ls b =
+      useful_unless_stopped (is_lock_stopped ls) a.deal a.me (landing_height b a.ledgers) (seed_wallet seed a.me a.deal) (signed_hashkey a.kept.signed.keys) b
 
-module _ (seed : List ℕ) (a : Asked) (k : Histories) (us : List Unkept) (stopped : List ℕ) (xs ys : List Action) (is : IsWellAsked seed a)
-    (e : k ≡ known (asked_question seed a)) (f : us ≡ unkept (asked_question seed a)) (g : stopped ≡ stopped_locks us)
-    (h : xs ≡ useful_unless_stopped (is_lock_stopped stopped) a.deal a.me (landing_height k a.ledgers) (seed_wallet seed a.me a.deal) (signed_hashkey a.kept.signed.keys) k)
-    (u : ys ≡ unsent (asked_question seed a) xs) where
-  abbrev left : (ℕ → Bool) → Histories → List Action
-  left stops b =
-      useful_unless_stopped stops a.deal a.me (landing_height b a.ledgers) (seed_wallet seed a.me a.deal) (signed_hashkey a.kept.signed.keys) b
+  -- the stopped locks
+  stops_are : stops ≡ stopped (asked_question seed a)
+  stops_are =
+      g ∙ ap (λ (z : List Unkept). stopped_locks a.deal (signed_hashkey a.kept.signed.keys) a.kept.stopped z st) f
+      ∙ ap (stopped_locks a.deal (signed_hashkey a.kept.signed.keys) a.kept.stopped (unkept (asked_question seed a))) s
 
   -- what is useful and not stopped is what may be answered
   answerable_is : xs ≡ answerable_landing (asked_question seed a) (lands_at (asked_question seed a)) (known (asked_question seed a))
   answerable_is =
-      h ∙ ap (λ z. left (is_lock_stopped z) k) g ∙ ap (λ s. left s k) (same_stops us) ∙ ap (left (is_lock_unkept us)) e
-      ∙ ap (λ (z : List Unkept). left (is_lock_unkept z) (known (asked_question seed a))) f
-      ∙ unstopped_useful (is_lock_unkept (unkept (asked_question seed a))) a.deal a.me (lands_at (asked_question seed a)) (seed_wallet seed a.me a.deal)
+      h ∙ ap (λ z. left z k) stops_are ∙ ap (left (stopped (asked_question seed a))) e
+      ∙ unstopped_useful (is_lock_stopped (stopped (asked_question seed a))) a.deal a.me (lands_at (asked_question seed a)) (seed_wallet seed a.me a.deal)
       (signed_hashkey a.kept.signed.keys) (known (asked_question seed a)) is.legal (seed_signs a.deal a.me seed) is.good
 
-  -- and what wasn't sent is what is answered
-  answered_is : ys ≡ answered (asked_question seed a)
-  answered_is = u ∙ ap (unsent (asked_question seed a)) answerable_is
+  -- and what wasn't sent, and waits for no ledger, is what is answered
+  pub answered_is : zs ≡ answered (asked_question seed a)
+  answered_is =
+      w ∙ ap (λ z. unwaiting z ys) s ∙ ap (unwaiting (stale (asked_question seed a))) (u ∙ ap (unsent (asked_question seed a)) answerable_is)
 
-  -- it is on arcs of the deal
-  pub measured : AreMeasured a.deal ys
-  measured x i =
-      let s = sound seed a is in
-      let q = asked_question seed a in
-      let open_call = from_filter (λ y. not (was_sent (was_published q) y)) x (answerable_landing q (lands_at q) (known q)) (subst (IsElement x) answered_is i) in
-      let j = from_filter (λ y. not (is_stopped_call (is_lock_unkept (unkept q)) y.call)) x (useful_actions q (known q)) open_call.0 in
-      useful_is_short a.deal a.me (seed_wallet seed a.me a.deal) (signed_hashkey a.kept.signed.keys) (known q) is.accepted is.legal s.wallet
-      (seed_signs a.deal a.me seed) is.good (lands_at q) x j.0
+-- what is answered is on arcs of the deal
+pub measured : (seed : List ℕ) (a : Asked) (zs : List Action) → IsWellAsked seed a → zs ≡ answered (asked_question seed a) → AreMeasured a.deal zs
+measured seed a zs is e x i =
+    let sd = sound seed a is in
+    let q = asked_question seed a in
+    let shown = from_filter (λ y. not (waits_for (stale q) y)) x (unsent q (answerable_landing q (lands_at q) (known q))) (subst (IsElement x) e i) in
+    let open_call = from_filter (λ y. not (was_sent (was_published q) y)) x (answerable_landing q (lands_at q) (known q)) shown.0 in
+    let j = from_filter (λ y. not (is_stopped_call (is_lock_stopped (stopped q)) y.call)) x (useful_actions q (known q)) open_call.0 in
+    useful_is_short a.deal a.me (seed_wallet seed a.me a.deal) (signed_hashkey a.kept.signed.keys) (known q) is.accepted is.legal sd.wallet
+    (seed_signs a.deal a.me seed) is.good (lands_at q) x j.0
 
-  pub calls_given : (ts : List Timed) → ts ≡ map (timed a.deal k a.me) ys → ts ≡ answered_calls (asked_question seed a)
-  calls_given ts t =
-      t ∙ ap (map (timed a.deal k a.me)) answered_is ∙ ap (λ b. map (timed a.deal b a.me) (answered (asked_question seed a))) e
+pub calls_given : (seed : List ℕ) (a : Asked) (k : Histories) (zs : List Action) (ts : List Timed) → k ≡ known (asked_question seed a)
+    → zs ≡ answered (asked_question seed a) → ts ≡ map (timed a.deal k a.me) zs → ts ≡ answered_calls (asked_question seed a)
+calls_given seed a k zs ts e g t =
+    t ∙ ap (map (timed a.deal k a.me)) g ∙ ap (λ b. map (timed a.deal b a.me) (answered (asked_question seed a))) e
 
-pub text_given : (seed : List ℕ) (a : Asked) (k : Histories) (us : List Unkept) (ts ls : List Timed) (text : List ℕ) → k ≡ known (asked_question seed a)
-    → us ≡ unkept (asked_question seed a) → ts ≡ answered_calls (asked_question seed a) → ls ≡ landing_timed a k
-    → text ≡ (bad_lines 0 a.ledgers ++ flat_map unkept_text us) ++ calls_text a k ts ls
+-- the stale ledgers
+pub stale_given : (seed : List ℕ) (a : Asked) (k : Histories) (st : List ℕ) → k ≡ known (asked_question seed a) → st ≡ stale_arcs a.deal a.me k a.kept.seen
+    → st ≡ stale (asked_question seed a)
+stale_given seed a k st e is = is ∙ ap (λ b. stale_arcs a.deal a.me b a.kept.seen) e
+
+-- the text of an answer by its parts
+abbrev parted : Asked → List ℕ → List ℕ → List Unkept → Histories → List Timed → List Timed → List ℕ
+parted a st ns us b xs ys =
+    (((flat_map (stale_text a.kept.seen) st ++ flat_map noted_text ns) ++ flat_map unkept_text us) ++ bad_lines 0 a.ledgers) ++ calls_text (is_any st) a b xs ys
+
+pub text_given : (seed : List ℕ) (a : Asked) (k : Histories) (w : Warned) (ts ls : List Timed) (text : List ℕ) → k ≡ known (asked_question seed a)
+    → w.unkept.items ≡ unkept (asked_question seed a) → w.stale.items ≡ stale (asked_question seed a) → ts ≡ answered_calls (asked_question seed a)
+    → ls ≡ landing_timed a k → w.noted.items ≡ noted (asked_question seed a)
+    → text ≡ (warned_text a.kept.seen w ++ bad_lines 0 a.ledgers) ++ calls_text (is_any w.stale.items) a k ts ls
     → text ≡ warning_text (asked_question seed a) ++ due_text (asked_question seed a)
 unfolding warning_text due_text
-text_given seed a k us ts ls text e g h l is =
-    is ∙ (ap (λ z. (bad_lines 0 a.ledgers ++ flat_map unkept_text us) ++ calls_text a k ts z) l
-    ∙ (ap (λ b. (bad_lines 0 a.ledgers ++ flat_map unkept_text us) ++ calls_text a b ts (landing_timed a b)) e
-    ∙ (ap (λ z. (bad_lines 0 a.ledgers ++ flat_map unkept_text z) ++ calls_text a (known (asked_question seed a)) ts (landing_timed a (known (asked_question seed a)))) g
-    ∙ ap (λ z. (bad_lines 0 a.ledgers ++ flat_map unkept_text (unkept (asked_question seed a))) ++ calls_text a (known (asked_question seed a)) z (landing_timed a (known (asked_question seed a)))) h)))
+text_given seed a k w ts ls text e g s h l n is =
+    let q = asked_question seed a in
+    is ∙ (ap (λ z. parted a w.stale.items w.noted.items w.unkept.items k ts z) l
+    ∙ (ap (λ b. parted a w.stale.items w.noted.items w.unkept.items b ts (landing_timed a b)) e
+    ∙ (ap (λ z. parted a w.stale.items w.noted.items z (known q) ts (landing_timed a (known q))) g
+    ∙ (ap (λ z. parted a w.stale.items z (unkept q) (known q) ts (landing_timed a (known q))) n
+    ∙ (ap (λ z. parted a z (noted q) (unkept q) (known q) ts (landing_timed a (known q))) s
+    ∙ ap (λ z. parted a (stale q) (noted q) (unkept q) (known q) z (landing_timed a (known q))) h)))))
 
 -- the publishes that may land are on arcs of the deal
 pub landing_measured : (a : Asked) (k : Histories) (xs : List Action)
@@ -144,10 +141,15 @@ landing_measured a k xs is x i =
     by c true j (inr n) = absurd n
     by c false j n = absurd n
 
-pub warns_given : (seed : List ℕ) (a : Asked) (us : List Unkept) (b : Bool) → us ≡ unkept (asked_question seed a)
-    → b ≡ (list_any (λ t. is_some t.bad) a.ledgers || not (length us == 0)) → b ≡ warns (asked_question seed a)
+pub warns_given : (seed : List ℕ) (a : Asked) (w : Warned) (b : Bool) → w.unkept.items ≡ unkept (asked_question seed a)
+    → w.stale.items ≡ stale (asked_question seed a) → w.noted.items ≡ noted (asked_question seed a)
+    → b ≡ (is_any w.stale.items || is_any w.noted.items || not (length w.unkept.items == 0) || list_any (λ t. is_some t.bad) a.ledgers)
+    → b ≡ warns (asked_question seed a)
 unfolding warns
-warns_given seed a us b g is = is ∙ ap (λ z. list_any (λ t. is_some t.bad) a.ledgers || not (length z == 0)) g
+warns_given seed a w b g s n is =
+    is ∙ ap (λ z. is_any z || is_any w.noted.items || not (length w.unkept.items == 0) || list_any (λ t. is_some t.bad) a.ledgers) s
+    ∙ ap (λ z. is_any (stale (asked_question seed a)) || is_any z || not (length w.unkept.items == 0) || list_any (λ t. is_some t.bad) a.ledgers) n
+    ∙ ap (λ (z : List Unkept). is_any (stale (asked_question seed a)) || is_any (noted (asked_question seed a)) || not (length z == 0) || list_any (λ t. is_some t.bad) a.ledgers) g
 
 pub answer_given : (q : PartyQuestion) (text : List ℕ) (b : Bool) → text ≡ warning_text q ++ due_text q → b ≡ warns q
     → ◌≡◌ {A = Answer} (record { text = text; warns = b }) (question_answer q)

@@ -1,10 +1,10 @@
-pub mod Based
-pub mod Good
 pub mod Members
+pub mod Unwaiting
+pub mod Signing
+pub mod Stopping
 pub mod Answered
 pub mod Growing
 pub mod Joined
 pub mod Along
+pub mod Passing
 pub mod Asking
-pub mod Counting
-pub mod Faults

@@ -153,9 +153,10 @@ some_wait : (o : Option ℕ) → wait_text o ≢ []
 some_wait None e = cc e
 some_wait (Some n) e = cc e
 
-some_rest : (b : Bool) (o : Option ℕ) → cond b (codes "done\n") (wait_text o) ≢ []
-some_rest true o e = cc e
-some_rest false o e = some_wait o e
+some_rest : (s b : Bool) (o : Option ℕ) → cond s (wait_text None) (cond b (codes "done\n") (wait_text o)) ≢ []
+some_rest true b o e = cc e
+some_rest false true o e = cc e
+some_rest false false o e = some_wait o e
 
 -- the lines of one call at least
 some_line : (v : ℕ) (y : Line) (ys : List Line) → lines_text v (y ∷ ys) ≢ []
@@ -174,12 +175,12 @@ one_line kept v t ts (KeepFirst u key) own e =
     some_line v (KeepFirst u key) (each_once (Some key.lock) (map (own_line kept) ts))
     (ap (λ (y : Line). lines_text v (each_once None (y ∷ map (own_line kept) ts))) (sym own) ∙ e)
 
-pub never_empty : (d : Deal) (k : Histories) (v : ℕ) (kept : ℕ → Option Hashkey) (ts us : List Timed)
-    → lines_text v (call_lines kept None ts) ++ flat_map landing_text us ++ end_text d k v ts us ≢ []
+pub never_empty : (s : Bool) (d : Deal) (k : Histories) (v : ℕ) (kept : ℕ → Option Hashkey) (ts us : List Timed)
+    → lines_text v (call_lines kept None ts) ++ flat_map landing_text us ++ end_text s d k v ts us ≢ []
 unfolding rest_text
-never_empty d k v kept [] [] e = some_rest (are_finished d k v) (rest_deadline d v k) e
-never_empty d k v kept [] (u ∷ us) e =
-    let landing = (append_empty (lines_text v []) _ (append_empty _ (end_text d k v [] (u ∷ us)) e).0).1 in
+never_empty s d k v kept [] [] e = some_rest s (are_finished d k v) (rest_deadline d v k) e
+never_empty s d k v kept [] (u ∷ us) e =
+    let landing = (append_empty (lines_text v []) _ (append_empty _ (end_text s d k v [] (u ∷ us)) e).0).1 in
     some_landing u (append_empty (landing_text u) (flat_map landing_text us) landing).0
-never_empty d k v kept (t ∷ ts) us e =
-    one_line kept v t ts (own_line kept t) refl (append_empty (lines_text v (call_lines kept None (t ∷ ts))) _ (append_empty _ (end_text d k v (t ∷ ts) us) e).0).0
+never_empty s d k v kept (t ∷ ts) us e =
+    one_line kept v t ts (own_line kept t) refl (append_empty (lines_text v (call_lines kept None (t ∷ ts))) _ (append_empty _ (end_text s d k v (t ∷ ts) us) e).0).0

@@ -1,14 +1,7 @@
-pub mod Actions
-pub mod Landing
-pub mod Asker
-pub mod Notes
-pub mod Kept
-pub mod NoteStates
-pub mod Asked
 pub mod Unkept
+pub mod Stale
 pub mod Lines
 pub mod Text
-pub mod Faults
 pub mod Inside
 pub mod Growing
 pub mod Promised

@@ -1,14 +1,14 @@
 -- What holds of an answer that was given.
-use Rattle.std.specs.Prelude.{◌≡◌, ◌≢◌, ◌⊎◌, ◌<◌, ◌≤◌, ◌++◌, ℕ, true, false, List, [], set, Option, Some, None, Result, Ok, Err}
+use Rattle.std.specs.Prelude.{◌≡◌, ◌≢◌, ◌⊎◌, ◌==◌, ◌<◌, ◌≤◌, ◌++◌, ℕ, true, false, List, [], codes, length, set, Option, Some, None, Result, Ok, Err}
 use Rattle.swap_base.specs.declared.fault.Fault.{Fault}
 use Rattle.swap_base.specs.Fault.{Gives}
 use Rattle.swap_base.specs.Lists.{IsElement}
 use Rattle.time_bounds.specs.Times as times
-use Rattle.swap_digraph.specs.Graph.{leaving}
+use Rattle.swap_digraph.specs.Graph.{is_listed, leaving}
 use Rattle.hashkey_path.specs.declared.hashkey.Hashkey.{Hashkey}
 use Rattle.escrow_core.specs.declared.terms.Terms.{Terms}
 use Rattle.escrow_core.specs.Terms.{stated_terms}
-use Rattle.ledger_core.specs.declared.entry.Call.TheVariants.{Publish, Unlock}
+use Rattle.ledger_core.specs.declared.entry.Call.TheVariants.{Publish, Unlock, Claim, Refund}
 use Rattle.ledger_core.specs.declared.entry.Entry.{Entry}
 use Rattle.ledger_core.specs.History.{height}
 use Rattle.ledger_core.specs.Book.{Histories, history, IsLegalBook}
@@ -22,18 +22,20 @@ use Rattle.wallet_promise.specs.Answers.{MayGo, MayKeep, was_sent}
 use Rattle.wallet_promise.specs.WithoutNoise.{SayEnough}
 use Rattle.answer_rules.specs.Heights.{HasHeight}
 use Rattle.answer_rules.specs.Finished.{are_finished, ContinuesWithoutParty}
-use Rattle.answer_rules.specs.Stopped.{is_stopped_call}
+use Rattle.answer_rules.specs.Stopped.{is_stopped_call, unstopped}
 use Rattle.answer_rules.specs.Laws.{IsLastHeight}
-use Rattle.party_answer.specs.declared.reason.AnswerReason.{AnswerReason}
-use Rattle.party_answer.specs.declared.reason.AnswerReason.TheVariants.{NotAgreed}
+use Rattle.party_notes.specs.declared.reason.AnswerReason.{AnswerReason}
+use Rattle.party_notes.specs.declared.reason.AnswerReason.TheVariants.{NotAgreed}
 use Rattle.party_answer.specs.declared.given.Answer.{Answer}
-use Rattle.party_answer.specs.Asked.{PartyQuestion, SaidState, asked, known, text_said, told}
-use Rattle.party_answer.specs.Landing.{may_land}
-use Rattle.party_answer.specs.Unkept.{is_lock_unkept}
+use Rattle.party_notes.specs.Asked.{PartyQuestion, SaidState, asked, known, text_said, told}
+use Rattle.useful_calls.specs.Landing.{may_land}
+use Rattle.party_notes.specs.Kept.{with_stop}
+use Rattle.useful_calls.specs.Actions.{is_lock_stopped}
+use Rattle.party_answer.specs.Stale.{is_any, is_stale, waits_for}
 use Rattle.party_answer.specs.declared.timed.Timed.{Timed}
 use Rattle.party_answer.specs.Lines.{Present, KeepFirst, timed, untimed}
-use Rattle.party_answer.specs.Text.{answerable_landing, answered, answered_calls, due_text, kept_keys, answered_lines, landing_calls, lands_at, own_wallet, question_answer}
-use Rattle.party_answer.specs.Text.{unkept, useful_actions, useful_landing, was_published}
+use Rattle.party_answer.specs.Text.{answerable_landing, answered, answered_calls, due_text, end_text, kept_keys, answered_lines, landing_calls, lands_at, own_wallet, question_answer}
+use Rattle.party_answer.specs.Text.{stale, stopped, useful_actions, useful_landing, was_published}
 
 -- what the wallet hands over
 abbrev pub own_asking : PartyQuestion → Asking
@@ -47,17 +49,20 @@ MayBeMade q x = MayGo q.deal q.me (own_wallet q) (own_asking q) x
 abbrev pub MayBeKept : PartyQuestion → Hashkey → Type 0
 MayBeKept q key = MayKeep q.deal q.me (own_wallet q) (own_asking q) key
 
--- Why a call is left out: it can only hurt the party, or it is an unlock for a lock with an unlock
--- in the party's name that it never made.
+-- Why a call is left out: it can only hurt the party, it is an unlock for a stopped lock, or it
+-- waits for a stale ledger.
 
 abbrev pub CanOnlyHurt : PartyQuestion → Action → Type 0
 CanOnlyHurt q x = IsHarmful q.deal q.me (lands_at q) (own_wallet q) (kept_keys q) (known q) x
 
-abbrev pub IsLockUnkept : PartyQuestion → Action → Type 0
-IsLockUnkept q x = is_stopped_call (is_lock_unkept (unkept q)) x.call ≡ true
+abbrev pub IsLockStopped : PartyQuestion → Action → Type 0
+IsLockStopped q x = is_stopped_call (is_lock_stopped (stopped q)) x.call ≡ true
+
+abbrev pub WaitsForLedger : PartyQuestion → Action → Type 0
+WaitsForLedger q x = waits_for (stale q) x ≡ true
 
 abbrev pub IsLeftOutAction : PartyQuestion → Action → Type 0
-IsLeftOutAction q x = CanOnlyHurt q x ⊎ IsLockUnkept q x
+IsLeftOutAction q x = CanOnlyHurt q x ⊎ (IsLockStopped q x ⊎ WaitsForLedger q x)
 
 -- the height isn't above that at which rest ends, if it ends at one
 abbrev pub IsWithinRest : Option ℕ → ℕ → Type 0
@@ -72,10 +77,12 @@ with_more q a more = set (known q) a (history (known q) a ++ more)
 abbrev pub OpensInTime : PartyQuestion → Timed → Terms → Type 0
 OpensInTime q t terms = (terms ≡ stated_terms q.deal t.arc) × (lands_at q t.arc ≤ times.opening_deadline q.deal.start q.deal.delta q.deal.bound)
 
--- no call is answered, no hashkey has to be kept, and no publish that was sent may land
+-- No call is answered, no hashkey has to be kept, no publish that was sent may land, and no ledger
+-- is stale.
 pub record IsNothingAnswered (q : PartyQuestion) : Type 0 where
   pub calls : answered q ≡ []
   pub landing : landing_calls q ≡ []
+  pub shown : stale q ≡ []
 
 -- up to which height the contract accepts the hashkey of an unlock
 abbrev pub HasLastHeight : PartyQuestion → Timed → Hashkey → Type 0
@@ -84,6 +91,41 @@ HasLastHeight q t key = (last : ℕ) × (t.until ≡ Some last) × IsLastHeight 
 -- a call with its heights
 abbrev pub own_timed : PartyQuestion → Action → Timed
 own_timed q x = timed q.deal (known q) q.me x
+
+-- the ledger of arc a is stale: it is told lower than it was seen
+abbrev pub IsStale : PartyQuestion → ℕ → Type 0
+IsStale q a = IsElement a (stale q)
+
+-- the call is a claim or a refund
+abbrev pub Settles : Action → Type 0
+Settles x = (x.call ≡ Claim) ⊎ (x.call ≡ Refund)
+
+-- Nothing is signed or published because of what a stale ledger doesn't show.
+pub record TrustsNoStaleLedger (q : PartyQuestion) : Type 0 where
+  -- a ledger next to the party that is told below a height at which it was seen is stale
+  pub told : (a : ℕ) → a < length q.deal.graph.arcs → is_stale q.deal q.me (known q) q.kept.seen a ≡ true → IsStale q a
+  -- where a ledger is stale no publish is answered, and no hashkey is signed
+  pub publishes : (a : ℕ) (t : Timed) (terms : Terms) → IsStale q a → IsElement (Present t) (answered_lines q) → t.call ≢ Publish terms
+  pub signs : (a : ℕ) (t : Timed) (key : Hashkey) → IsStale q a → ¬ IsElement (KeepFirst t key) (answered_lines q)
+  -- no call is answered on a stale ledger
+  pub calls : (t : Timed) → IsElement (Present t) (answered_lines q) → ¬ IsStale q t.arc
+  -- each claim and each refund on another ledger that may go out is answered
+  pub settles : (x : Action) → MayBeMade q x → Settles x → ¬ IsStale q x.arc → IsElement (Present (own_timed q x)) (answered_lines q)
+  -- where a ledger is stale and nothing is answered, no more is said than that
+  pub rests : (a : ℕ) → IsStale q a → answered_calls q ≡ [] → landing_calls q ≡ []
+      → end_text (is_any (stale q)) q.deal (known q) q.me (answered_calls q) (landing_calls q) ≡ codes "wait\n"
+
+-- the same question, where the notes of one more lock are torn or differ
+abbrev pub with_torn_note : PartyQuestion → ℕ → PartyQuestion
+with_torn_note q i = record q { kept = with_stop q.kept i }
+
+-- Notes of a lock that are torn or differ stop that lock alone.
+pub record StopsItsLock (q : PartyQuestion) : Type 0 where
+  -- the lock is stopped, and no unlock for a stopped lock is answered
+  pub torn : (i : ℕ) → is_listed i q.kept.stopped ≡ true → is_lock_stopped (stopped q) i ≡ true
+  pub silent : (t : Timed) (key : Hashkey) → IsElement t (answered_calls q) → t.call ≡ Unlock key → is_lock_stopped (stopped q) key.lock ≡ false
+  -- one more such lock takes away the unlocks for it, and leaves all other calls as they are
+  pub others : (i : ℕ) → answered (with_torn_note q i) ≡ unstopped (λ j. i == j) (answered q)
 
 -- The answer is that to what is asked: of an accepted deal, over ledgers that did what is told of
 -- them, for a party whose seed it is.
@@ -107,13 +149,17 @@ pub record IsPromisedAnswer (asks : Result PartyQuestion AnswerReason) (answer :
   pub landing : (t : Timed) → IsElement t (landing_calls question) → may_land question.kept.sent question.me (known question) t.arc ≡ true
   pub lands : (a : ℕ) → IsElement a (leaving question.deal.graph question.me) → may_land question.kept.sent question.me (known question) a ≡ true
       → (t : Timed) × IsElement t (landing_calls question) × (t.arc ≡ a)
-  -- only three kinds of calls that may go out are left out: publishes that were sent, calls that
-  -- can only hurt the party, and unlocks for a lock with an unlock in the party's name that it
-  -- never made. For each other lock for which a hashkey may be kept it has such a hashkey.
+  -- only four kinds of calls that may go out are left out: publishes that were sent, calls that
+  -- can only hurt the party, unlocks for a stopped lock, and calls that wait for a stale ledger.
+  -- For each other lock for which a hashkey may be kept it has such a hashkey.
   pub all : (x : Action) → MayBeMade question x → was_sent (was_published question) x ≡ false
       → IsElement (Present (own_timed question x)) (answered_lines question) ⊎ IsLeftOutAction question x
   pub each : (key : Hashkey) (may : MayBeKept question key)
       → ((t : Timed) × (other : Hashkey) × IsElement (KeepFirst t other) (answered_lines question) × (other.lock ≡ key.lock)) ⊎ IsLeftOutAction question (MayKeep.unlock may)
+  -- notes of a lock that are torn or differ stop that lock alone
+  pub alone : StopsItsLock question
+  -- nothing is signed or published because of what a stale ledger doesn't show
+  pub cautious : TrustsNoStaleLedger question
   -- where the told ledgers say enough of some histories, the same actions are useful over these, so
   -- noise may be left out
   pub heard : (at : ℕ → ℕ) (h : Histories) → SayEnough question.deal question.me (known question) h

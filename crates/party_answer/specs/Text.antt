@@ -1,5 +1,5 @@
 -- The text that answers a question, line by line.
-use Rattle.std.specs.Prelude.{ℕ, ◌+◌, Bool, not, ◌||◌, ◌==◌, List, [], ◌∷◌, ◌++◌, map, filter, codes, decimal, Option, Some, None, is_some, length, Result, Ok, if◌then◌else◌}
+use Rattle.std.specs.Prelude.{ℕ, ◌+◌, Bool, not, ◌||◌, ◌==◌, List, [], ◌∷◌, ◌++◌, map, filter, codes, decimal, Option, Some, None, is_some, length, slice_index_or, Result, Ok, if◌then◌else◌}
 use Rattle.std.specs.List.{flat_map, list_any}
 use Rattle.hex.specs.Hex.{encode_lower}
 use Rattle.swap_base.specs.Fault.{◌>>=◌}
@@ -24,12 +24,14 @@ use Rattle.answer_rules.specs.Stopped.{unstopped}
 use Rattle.told_ledgers.specs.declared.told_ledger.BadEntry.{BadEntry}
 use Rattle.told_ledgers.specs.declared.told_ledger.Replies.{Replies}
 use Rattle.told_ledgers.specs.declared.told_ledger.ToldLedger.{ToldLedger}
-use Rattle.party_answer.specs.declared.reason.AnswerReason.{AnswerReason}
+use Rattle.party_notes.specs.declared.reason.AnswerReason.{AnswerReason}
 use Rattle.party_answer.specs.declared.given.Answer.{Answer}
 use Rattle.party_answer.specs.declared.unkept.Unkept.{Unkept}
-use Rattle.party_answer.specs.Asked.{PartyQuestion, SaidState, asked, by_refusal, known, lines_said, said_asked}
-use Rattle.party_answer.specs.Landing.{landing_height, may_land}
-use Rattle.party_answer.specs.Unkept.{all_unkept, is_lock_unkept}
+use Rattle.party_notes.specs.Asked.{PartyQuestion, SaidState, asked, by_refusal, known, lines_said, said_asked}
+use Rattle.useful_calls.specs.Landing.{landing_height, may_land}
+use Rattle.party_answer.specs.Unkept.{all_unkept, noted_locks}
+use Rattle.party_answer.specs.Stale.{is_any, stale_arcs, stopped_locks, unwaiting}
+use Rattle.useful_calls.specs.Actions.{is_lock_stopped}
 use Rattle.party_answer.specs.declared.line.Part.{Part}
 use Rattle.party_answer.specs.declared.line.Part.TheVariants.{Keeps, Calls}
 use Rattle.party_answer.specs.declared.timed.Timed.{Timed}
@@ -65,18 +67,30 @@ useful_actions q k = useful_landing q (lands_at q) k
 abbrev pub unkept : PartyQuestion → List Unkept
 unkept q = all_unkept (kept_keys q) q.ledgers
 
--- what is useful over other ledgers, where calls land at other heights, without unlocks for a lock
--- with an unlock in the party's name that it never made
+-- the arcs whose ledgers are told lower than they were seen
+abbrev pub stale : PartyQuestion → List ℕ
+stale q = stale_arcs q.deal q.me (known q) q.kept.seen
+
+-- the locks for which nothing is signed and nothing presented
+abbrev pub stopped : PartyQuestion → List ℕ
+stopped q = stopped_locks q.deal (kept_keys q) q.kept.stopped (unkept q) (stale q)
+
+-- the locks whose notes are torn or differ
+abbrev pub noted : PartyQuestion → List ℕ
+noted q = noted_locks q.deal q.kept.stopped
+
+-- what is useful over other ledgers, where calls land at other heights, without unlocks for stopped
+-- locks
 abbrev pub answerable_landing : PartyQuestion → (ℕ → ℕ) → Histories → List Action
-answerable_landing q at k = unstopped (is_lock_unkept (unkept q)) (useful_landing q at k)
+answerable_landing q at k = unstopped (is_lock_stopped (stopped q)) (useful_landing q at k)
 
 -- without publishes that were sent
 abbrev pub unsent : PartyQuestion → List Action → List Action
 unsent q xs = filter (λ x. not (was_sent (was_published q) x)) xs
 
--- what is answered
+-- what is answered: without calls that wait for a stale ledger
 abbrev pub answered : PartyQuestion → List Action
-answered q = unsent q (answerable_landing q (lands_at q) (known q))
+answered q = unwaiting (stale q) (unsent q (answerable_landing q (lands_at q) (known q)))
 
 -- with its heights
 abbrev pub answered_calls : PartyQuestion → List Timed
@@ -94,7 +108,11 @@ landing_actions q = flat_map (λ a. when_due (may_land q.kept.sent q.me (known q
 abbrev pub landing_calls : PartyQuestion → List Timed
 landing_calls q = map (timed q.deal (known q) q.me) (landing_actions q)
 
--- ---- of ledgers that can't be told on
+-- ---- what is wrong
+
+-- the stale ledger of arc a, with the greatest height at which it was seen
+unfoldable pub stale_text : (seen : List ℕ) → ℕ → List ℕ
+stale_text seen a = joined (codes "stale " ∷ decimal a ∷ codes " " ∷ decimal (slice_index_or seen a 0) ∷ codes "\n" ∷ [])
 
 abbrev pub replies_text : Option Replies → List ℕ
 replies_text None = []
@@ -112,6 +130,10 @@ bad_entry_line a (Some b) = bad_text a b
 abbrev pub bad_lines : ℕ → List ToldLedger → List ℕ
 bad_lines a [] = []
 bad_lines a (t ∷ ts) = bad_entry_line a t.bad ++ bad_lines (a + 1) ts
+
+-- a lock whose notes are torn or differ
+unfoldable pub noted_text : ℕ → List ℕ
+noted_text i = joined (codes "unkept " ∷ decimal i ∷ codes "\n" ∷ [])
 
 -- an unlock in the party's name that it never made
 unfoldable pub unkept_text : Unkept → List ℕ
@@ -161,31 +183,34 @@ abbrev pub wait_text : Option ℕ → List ℕ
 wait_text None = codes "wait\n"
 wait_text (Some height) = joined (codes "wait " ∷ decimal height ∷ codes "\n" ∷ [])
 
--- nothing is left to do, or nothing is due for now
-unfoldable pub rest_text : Deal → Histories → ℕ → List ℕ
-rest_text d k v = if are_finished d k v then codes "done\n" else wait_text (rest_deadline d v k)
+-- nothing is left to do, or nothing is due for now; where a ledger is stale neither is known
+unfoldable pub rest_text : (is_stale : Bool) → Deal → Histories → ℕ → List ℕ
+rest_text is_stale d k v =
+    if is_stale then wait_text None else if are_finished d k v then codes "done\n" else wait_text (rest_deadline d v k)
 
 -- where nothing is answered, and nothing may land
-abbrev pub end_text : Deal → Histories → ℕ → (calls landing : List Timed) → List ℕ
-end_text d k v [] [] = rest_text d k v
-end_text d k v [] (u ∷ us) = []
-end_text d k v (t ∷ ts) us = []
+abbrev pub end_text : (is_stale : Bool) → Deal → Histories → ℕ → (calls landing : List Timed) → List ℕ
+end_text s d k v [] [] = rest_text s d k v
+end_text s d k v [] (u ∷ us) = []
+end_text s d k v (t ∷ ts) us = []
 
 -- ---- the whole
 
 -- what stands before the calls: what is wrong
 unfoldable pub warning_text : PartyQuestion → List ℕ
-warning_text q = bad_lines 0 q.ledgers ++ flat_map unkept_text (unkept q)
+warning_text q =
+    flat_map (stale_text q.kept.seen) (stale q) ++ flat_map noted_text (noted q) ++ flat_map unkept_text (unkept q) ++ bad_lines 0 q.ledgers
 
 -- the hashkeys, the calls and what may land, or that there is none
 unfoldable pub due_text : PartyQuestion → List ℕ
 due_text q =
     lines_text q.me (answered_lines q) ++ flat_map landing_text (landing_calls q)
-    ++ end_text q.deal (known q) q.me (answered_calls q) (landing_calls q)
+    ++ end_text (is_any (stale q)) q.deal (known q) q.me (answered_calls q) (landing_calls q)
 
--- a ledger has a bad entry, or an unlock stands in the party's name that it never made
+-- a ledger is stale, the notes of a lock are torn or differ, an unlock stands in the party's name
+-- that it never made, or a ledger has a bad entry
 unfoldable pub warns : PartyQuestion → Bool
-warns q = list_any (λ t. is_some t.bad) q.ledgers || not (length (unkept q) == 0)
+warns q = is_any (stale q) || is_any (noted q) || not (length (unkept q) == 0) || list_any (λ t. is_some t.bad) q.ledgers
 
 -- the answer to a question
 unfoldable pub question_answer : PartyQuestion → Answer

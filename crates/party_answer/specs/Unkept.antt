@@ -1,7 +1,10 @@
 -- Unlocks of the party with hashkeys that it never kept: somebody else has its seed, or what it
 -- kept is lost.
-use Rattle.std.specs.Prelude.{ℕ, ◌+◌, ◌==◌, ◌&&◌, ◌||◌, Bool, List, [], ◌∷◌, ◌++◌, map, Option, if◌then◌else◌}
+use Rattle.std.specs.Prelude.{ℕ, ◌+◌, ◌==◌, ◌&&◌, ◌||◌, Bool, List, [], ◌∷◌, ◌++◌, filter, map, Option, if◌then◌else◌}
 use Rattle.std.specs.List.{list_any}
+use Rattle.swap_digraph.specs.Graph.{is_listed}
+use Rattle.swap_digraph.specs.declared.deal.Deal.{Deal}
+use Rattle.swap_digraph.specs.Deal.{locks}
 use Rattle.hashkey_path.specs.declared.hashkey.Hashkey.{Hashkey}
 use Rattle.swap_rules.specs.Conduct.{is_first_key}
 use Rattle.told_ledgers.specs.declared.told_ledger.OwnUnlock.{OwnUnlock}
@@ -34,10 +37,10 @@ with_ledgers kept a us (t ∷ ts) = with_ledgers kept (a + 1) (with_unlocks kept
 abbrev pub all_unkept : (ℕ → Option Hashkey) → List ToldLedger → List Unkept
 all_unkept kept ts = with_ledgers kept 0 [] ts
 
--- one of them is for the lock
-abbrev pub is_lock_unkept : List Unkept → ℕ → Bool
-is_lock_unkept us i = list_any (λ u. u.lock == i) us
+-- the locks whose notes are torn or differ, ascending
+abbrev pub noted_locks : Deal → (noted : List ℕ) → List ℕ
+noted_locks d noted = filter (λ i. is_listed i noted) (locks d)
 
--- the locks of these, for which nothing is signed
-abbrev pub stopped_locks : List Unkept → List ℕ
-stopped_locks us = map (λ u. u.lock) us
+-- the locks of these
+abbrev pub unkept_locks : List Unkept → List ℕ
+unkept_locks us = map (λ u. u.lock) us

@@ -1,7 +1,6 @@
 //! The answer to an input.
 
-ghost use Rattle.std.specs.Prelude.{◌≡◌, ◌<◌, ◌≤◌, ◌++◌, ◌||◌, ◌==◌, IfOk, OnOk, is_some, length, not};
-ghost use Rattle.std.specs.List.{flat_map, list_any};
+ghost use Rattle.std.specs.Prelude.{◌≡◌, ◌<◌, ◌≤◌, ◌++◌, IfOk, OnOk, length};
 ghost use Rattle.swap_base.specs.Fault.{Gives};
 ghost use Rattle.swap_digraph.specs.Deal.{IsWellSized};
 ghost use Rattle.history_index.specs.Indexes.{all_entries, AreIndexes};
@@ -9,32 +8,57 @@ ghost use Rattle.ledger_core.specs.Book.{IsLegalBook};
 ghost use Rattle.swap_rules.specs.Counted.{all_counted};
 ghost use Rattle.told_ledgers.specs.Telling.{told_book};
 ghost use Rattle.party_terms.specs.Inside.{IsAgreedJob};
-ghost use Rattle.party_answer.specs.Asked.{lines_asked, said_asked};
-ghost use Rattle.party_answer.specs.Inside.{answers_text, asked_question, calls_text, landing_timed, said_state, IsWellAsked};
-ghost use Rattle.party_answer.specs.Text.{answer_told, answered_calls, bad_lines, lines_answer, question_answer, said_answer, unkept, unkept_text};
+ghost use Rattle.party_notes.specs.Asked.{lines_asked, said_asked};
+ghost use Rattle.party_answer.specs.Inside.{answers_text, calls_text, landing_timed, warned_text};
+ghost use Rattle.party_notes.specs.Inside.{asked_question, said_state, IsWellAsked};
+ghost use Rattle.useful_calls.specs.Actions.{actions};
+ghost use Rattle.party_answer.specs.Stale.{is_any as is_any_stale};
+ghost use Rattle.party_answer.specs.Text.{answer_told, answered, answered_calls, bad_lines, lines_answer, question_answer, said_answer, stale, unkept};
 ghost use Rattle.party_answer.specs.Promised.{IsTextAnswer, IsPromisedAnswer, NeedsAgreement};
 
-use crate::all::all_useful;
-use crate::asked::{Asked, said_asked};
 use crate::calls::with_heights;
-use crate::counted::counted_book;
-use crate::due_call::without_sent;
 use crate::given::Answer;
-use crate::landing::landing_publishes;
 use crate::line::{put_landings, put_lines};
-use crate::reason::{AnswerFault, refusal_fault};
-use crate::said::{Said, read_said};
-use crate::signer::Signer;
-use crate::text::{is_any_bad, put_all_unkept, put_end, put_ledgers};
+use crate::stale::{is_any, stopped_locks, without_waiting};
+use crate::text::put_end;
 use crate::timed::Timed;
-use crate::unkept::{Unkept, all_unkept, stopped_locks};
+use crate::warned::{Warned, collect_warned, is_warning, put_warnings};
 use history_index::Index;
 use outcome_rules::build_indexes;
+use party_notes::{AnswerFault, Asked, Said, counted_book, read_said, refusal_fault, said_asked};
 use party_rows::ended_lines;
 use std::alloc::Global;
 use swap_base::{ByteText, Digest, NoMemory};
-use told_ledgers::ToldLedger;
 use transcript_book::Parts;
+use useful_calls::{DueCall, Signer, all_useful, landing_publishes, without_sent};
+
+/// All that is answered.
+fn answered(
+    alloc: Global,
+    seed: &Digest,
+    asked: &Asked,
+    known: &[Index],
+    warned: &Warned,
+) -> Result<Vec<DueCall>, NoMemory>
+    requires asked { IsWellAsked seed.now asked.now }
+    requires known { AreIndexes asked.now.deal known.now }
+    requires entries { all_entries known.now ≡ all_counted asked.now.me (told_book asked.now.ledgers) }
+    requires unkept { warned.now.unkept.items ≡ unkept (asked_question seed.now asked.now) }
+    requires stale { warned.now.stale.items ≡ stale (asked_question seed.now asked.now) }
+    ensures { IfOk result (λ v. actions v.items ≡ answered (asked_question seed.now asked.now)) }
+{
+    let kept = &asked.kept;
+    let stopped = stopped_locks(alloc, &asked.deal, kept, &warned.unkept, &warned.stale)?;
+    let signer = Signer {
+        seed,
+        kept: &kept.signed,
+        stopped: stopped.as_slice(),
+    };
+    let told = asked.ledgers.as_slice();
+    let useful = all_useful(alloc, &asked.deal, asked.me, &signer, known, told)?;
+    let left = without_sent(alloc, kept.sent.as_slice(), useful)?;
+    without_waiting(alloc, &warned.stale, left)
+}
 
 /// All that is answered, with its heights.
 fn calls(
@@ -42,24 +66,17 @@ fn calls(
     seed: &Digest,
     asked: &Asked,
     known: &[Index],
-    list: &[Unkept],
+    warned: &Warned,
 ) -> Result<Vec<Timed>, NoMemory>
     requires asked { IsWellAsked seed.now asked.now }
     requires known { AreIndexes asked.now.deal known.now }
     requires entries { all_entries known.now ≡ all_counted asked.now.me (told_book asked.now.ledgers) }
-    requires list { list.now ≡ unkept (asked_question seed.now asked.now) }
+    requires unkept { warned.now.unkept.items ≡ unkept (asked_question seed.now asked.now) }
+    requires stale { warned.now.stale.items ≡ stale (asked_question seed.now asked.now) }
     ensures { IfOk result (λ v. v.items ≡ answered_calls (asked_question seed.now asked.now)) }
 {
-    let stopped = stopped_locks(alloc, list)?;
-    let signer = Signer {
-        seed,
-        kept: &asked.kept.signed,
-        stopped: stopped.as_slice(),
-    };
-    let told = asked.ledgers.as_slice();
-    let useful = all_useful(alloc, &asked.deal, asked.me, &signer, known, told)?;
-    let left = without_sent(alloc, asked.kept.sent.as_slice(), useful)?;
-    with_heights(alloc, &asked.deal, known, asked.me, &left)
+    let calls = answered(alloc, seed, asked, known, warned)?;
+    with_heights(alloc, &asked.deal, known, asked.me, &calls)
 }
 
 /// The publishes that may land, with their heights.
@@ -73,16 +90,6 @@ fn landing(alloc: Global, asked: &Asked, known: &[Index]) -> Result<Vec<Timed>, 
     let sent = asked.kept.sent.as_slice();
     let calls = landing_publishes(alloc, &asked.deal, known, asked.me, sent)?;
     with_heights(alloc, &asked.deal, known, asked.me, &calls)
-}
-
-/// Appends what is wrong.
-#[tactic(auto, using(crate::proofs::Joined::put_both))]
-fn put_warnings(out: &mut Vec<u8>, ledgers: &[ToldLedger], list: &[Unkept]) -> Result<(), NoMemory>
-    requires { length ledgers.now ≤ 256 }
-    ensures { OnOk result (out.new.items ≡ out.old.items ++ (bad_lines 0 ledgers.now ++ flat_map unkept_text list.now)) }
-{
-    put_ledgers(out, ledgers)?;
-    put_all_unkept(out, list)
 }
 
 /// Appends the hashkeys, the calls and what may land.
@@ -103,6 +110,7 @@ fn put_answers(
 #[tactic(auto, using(crate::proofs::Joined::put_both))]
 fn put_due(
     out: &mut Vec<u8>,
+    is_stale: bool,
     asked: &Asked,
     known: &[Index],
     calls: &[Timed],
@@ -111,10 +119,10 @@ fn put_due(
     requires sized { IsWellSized asked.now.deal }
     requires known { AreIndexes asked.now.deal known.now }
     requires me { asked.now.me < asked.now.deal.graph.n }
-    ensures { OnOk result (out.new.items ≡ out.old.items ++ calls_text asked.now (all_entries known.now) calls.now landing.now) }
+    ensures { OnOk result (out.new.items ≡ out.old.items ++ calls_text is_stale asked.now (all_entries known.now) calls.now landing.now) }
 {
     put_answers(out, asked, calls, landing)?;
-    put_end(out, &asked.deal, known, asked.me, calls, landing)
+    put_end(out, is_stale, asked, known, calls, landing)
 }
 
 /// The text that answers, where this is what is answered.
@@ -122,7 +130,7 @@ fn text(
     alloc: Global,
     asked: &Asked,
     known: &[Index],
-    list: &[Unkept],
+    warned: &Warned,
     calls: &[Timed],
     landing: &[Timed],
 ) -> Result<ByteText, NoMemory>
@@ -130,19 +138,20 @@ fn text(
     requires known { AreIndexes asked.now.deal known.now }
     requires me { asked.now.me < asked.now.deal.graph.n }
     requires few { length asked.now.ledgers ≤ 256 }
-    ensures { IfOk result (λ t. t ≡ bad_lines 0 asked.now.ledgers ++ flat_map unkept_text list.now ++ calls_text asked.now (all_entries known.now) calls.now landing.now) }
+    ensures { IfOk result (λ t. t ≡ warned_text asked.now.kept.seen warned.now ++ bad_lines 0 asked.now.ledgers
+        ++ calls_text (is_any_stale warned.now.stale.items) asked.now (all_entries known.now) calls.now landing.now) }
 {
     let mut out = Vec::new(alloc);
-    put_warnings(&mut out, asked.ledgers.as_slice(), list)?;
-    put_due(&mut out, asked, known, calls, landing)?;
+    put_warnings(&mut out, asked, warned)?;
+    put_due(
+        &mut out,
+        is_any(&warned.stale),
+        asked,
+        known,
+        calls,
+        landing,
+    )?;
     Ok(ByteText::new(out))
-}
-
-/// Whether a line warns.
-fn is_warning(asked: &Asked, list: &[Unkept]) -> bool
-    ensures { result ≡ (list_any (λ t. is_some t.bad) asked.now.ledgers || not (length list.now == 0)) }
-{
-    is_any_bad(asked.ledgers.as_slice()) || !list.is_empty()
 }
 
 /// The answer over ledgers as the indexes know them.
@@ -157,11 +166,11 @@ fn answer_known(
     requires entries { all_entries known.now ≡ all_counted asked.now.me (told_book asked.now.ledgers) }
     ensures { IfOk result (λ a. a ≡ question_answer (asked_question seed.now asked.now)) }
 {
-    let list = all_unkept(alloc, &asked.kept.signed, asked.ledgers.as_slice())?;
-    let calls = calls(alloc, seed, asked, known, &list)?;
+    let warned = collect_warned(alloc, asked, known)?;
+    let calls = calls(alloc, seed, asked, known, &warned)?;
     let landing = landing(alloc, asked, known)?;
-    let text = text(alloc, asked, known, &list, &calls, &landing)?;
-    let warns = is_warning(asked, &list);
+    let text = text(alloc, asked, known, &warned, &calls, &landing)?;
+    let warns = is_warning(asked, &warned);
     Ok(Answer { text, warns })
 }
 

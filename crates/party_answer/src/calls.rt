@@ -5,11 +5,10 @@ ghost use Rattle.swap_digraph.specs.Deal.{IsWellSized};
 ghost use Rattle.ledger_core.specs.Book.{IsLegalBook};
 ghost use Rattle.history_index.specs.Indexes.{all_entries, AreIndexes};
 ghost use Rattle.conduct_check.specs.Sent.{party_unlocks, shown};
-ghost use Rattle.party_answer.specs.Actions.{actions};
+ghost use Rattle.useful_calls.specs.Actions.{actions};
 ghost use Rattle.party_answer.specs.Lines.{timed};
 ghost use Rattle.party_answer.specs.Inside.{AreMeasured};
 
-use crate::due_call::DueCall;
 use crate::timed::{Timed, time_call};
 use conduct_check::unlocks_on_own_arcs;
 use hashkey_path::Hashkey;
@@ -17,6 +16,7 @@ use history_index::Index;
 use std::alloc::Global;
 use swap_base::{NoMemory, PartyId};
 use swap_digraph::Deal;
+use useful_calls::DueCall;
 
 /// The calls with their heights, where these are the hashkeys of the party's unlocks.
 fn all_timed(

@@ -6,6 +6,6 @@ use swap_base::ByteText;
 #[derive(Debug, Drop)]
 pub struct Answer {
     pub text: ByteText,
-    /// A `bad` or an `unkept` line stands in it.
+    /// A `stale`, an `unkept` or a `bad` line stands in it.
     pub warns: bool,
 }

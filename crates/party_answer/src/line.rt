@@ -9,13 +9,13 @@ ghost use Rattle.party_answer.specs.Text.{presented_call_text, keep_text, key_te
 ghost use Rattle.party_answer.specs.Growing.{asking_text, unkept_key, GrowsByLine};
 
 use crate::timed::Timed;
-use crate::unkept::kept_key;
 use conduct_check::is_first_key;
 use hashkey_path::Hashkey;
 use ledger_core::Call;
 use party_wallet::Signed;
 use run_texts::{put_call, put_digits, put_path, put_signatures};
 use swap_base::{LockId, NoMemory, PartyId, Piece, put};
+use useful_calls::kept_key;
 
 /// The lines that answer: those of hashkeys stand before those of calls.
 #[derive(Clone, Copy)]

@@ -4,15 +4,17 @@ ghost use Rattle.std.specs.Prelude.{◌≡◌, ◌<◌, ◌≤◌, ◌++◌, OnO
 ghost use Rattle.std.specs.List.{flat_map, list_any};
 ghost use Rattle.swap_digraph.specs.Deal.{IsWellSized};
 ghost use Rattle.history_index.specs.Indexes.{all_entries, AreIndexes};
-ghost use Rattle.party_answer.specs.Text.{bad_entry_line, bad_lines, bad_text, end_text, replies_text, rest_text, unkept_text, wait_text};
+ghost use Rattle.party_answer.specs.Text.{bad_entry_line, bad_lines, bad_text, end_text, replies_text, noted_text, rest_text, stale_text, unkept_text, wait_text};
 
+use crate::stale::seen_height;
 use crate::timed::Timed;
 use crate::unkept::Unkept;
 use answer_rules::are_finished;
 use command_input::put_reply;
 use due_calls::rest_deadline;
 use history_index::Index;
-use swap_base::{ArcId, NoMemory, PartyId, Piece, put};
+use party_notes::Asked;
+use swap_base::{ArcId, LockId, NoMemory, PartyId, Piece, put};
 use swap_digraph::Deal;
 use told_ledgers::{BadEntry, Replies, ToldLedger};
 
@@ -73,6 +75,62 @@ pub(crate) fn put_ledgers(out: &mut Vec<u8>, ledgers: &[ToldLedger]) -> Result<(
     Ok(())
 }
 
+/// Appends the line of the arc's stale ledger.
+#[tactic(auto, unfolding(crate::specs::Text::stale_text))]
+fn put_stale(out: &mut Vec<u8>, seen: &[u32], arc: ArcId) -> Result<(), NoMemory>
+    ensures { OnOk result (out.new.items ≡ out.old.items ++ stale_text seen.now arc) }
+{
+    put(
+        out,
+        &[
+            Piece::Text("stale "),
+            Piece::Number(arc as u64),
+            Piece::Text(" "),
+            Piece::Number(seen_height(seen, arc) as u64),
+            Piece::Text("\n"),
+        ],
+    )
+}
+
+/// Appends the lines of stale ledgers.
+pub(crate) fn put_all_stale(
+    out: &mut Vec<u8>,
+    seen: &[u32],
+    stale: &[ArcId],
+) -> Result<(), NoMemory>
+    ensures { OnOk result (out.new.items ≡ out.old.items ++ flat_map (stale_text seen.now) stale.now) }
+{
+    for arc in stale {
+        put_stale(out, seen, *arc)?;
+    }
+    Ok(())
+}
+
+/// Appends the line of a lock whose notes are torn or differ.
+#[tactic(auto, unfolding(crate::specs::Text::noted_text))]
+fn put_noted(out: &mut Vec<u8>, lock: LockId) -> Result<(), NoMemory>
+    ensures { OnOk result (out.new.items ≡ out.old.items ++ noted_text lock) }
+{
+    put(
+        out,
+        &[
+            Piece::Text("unkept "),
+            Piece::Number(lock as u64),
+            Piece::Text("\n"),
+        ],
+    )
+}
+
+/// Appends the lines of locks whose notes are torn or differ.
+pub(crate) fn put_all_noted(out: &mut Vec<u8>, locks: &[LockId]) -> Result<(), NoMemory>
+    ensures { OnOk result (out.new.items ≡ out.old.items ++ flat_map noted_text locks.now) }
+{
+    for lock in locks {
+        put_noted(out, *lock)?;
+    }
+    Ok(())
+}
+
 /// Appends the line of an unlock that was never kept.
 #[tactic(auto, unfolding(crate::specs::Text::unkept_text))]
 fn put_unkept(out: &mut Vec<u8>, unkept: &Unkept) -> Result<(), NoMemory>
@@ -120,14 +178,23 @@ fn put_wait(out: &mut Vec<u8>, until: Option<u64>) -> Result<(), NoMemory>
 }
 
 /// Appends the line that tells that nothing is left to do, or up to which height nothing is due.
+/// Where a ledger is stale neither is known.
 #[tactic(auto, unfolding(crate::specs::Text::rest_text))]
-fn put_rest(out: &mut Vec<u8>, deal: &Deal, known: &[Index], me: PartyId) -> Result<(), NoMemory>
+fn put_rest(
+    out: &mut Vec<u8>,
+    is_stale: bool,
+    deal: &Deal,
+    known: &[Index],
+    me: PartyId,
+) -> Result<(), NoMemory>
     requires sized { IsWellSized deal.now }
     requires known { AreIndexes deal.now known.now }
     requires me { me < deal.now.graph.n }
-    ensures { OnOk result (out.new.items ≡ out.old.items ++ rest_text deal.now (all_entries known.now) me) }
+    ensures { OnOk result (out.new.items ≡ out.old.items ++ rest_text is_stale deal.now (all_entries known.now) me) }
 {
-    if are_finished(deal, known, me) {
+    if is_stale {
+        put_wait(out, None)
+    } else if are_finished(deal, known, me) {
         put(out, &[Piece::Text("done\n")])
     } else {
         put_wait(out, rest_deadline(deal, me, known))
@@ -137,19 +204,20 @@ fn put_rest(out: &mut Vec<u8>, deal: &Deal, known: &[Index], me: PartyId) -> Res
 /// Appends that line, where nothing is answered and nothing may land.
 pub(crate) fn put_end(
     out: &mut Vec<u8>,
-    deal: &Deal,
+    is_stale: bool,
+    asked: &Asked,
     known: &[Index],
-    me: PartyId,
     calls: &[Timed],
     landing: &[Timed],
 ) -> Result<(), NoMemory>
-    requires sized { IsWellSized deal.now }
-    requires known { AreIndexes deal.now known.now }
-    requires me { me < deal.now.graph.n }
-    ensures { OnOk result (out.new.items ≡ out.old.items ++ end_text deal.now (all_entries known.now) me calls.now landing.now) }
+    requires sized { IsWellSized asked.now.deal }
+    requires known { AreIndexes asked.now.deal known.now }
+    requires me { asked.now.me < asked.now.deal.graph.n }
+    ensures { OnOk result (out.new.items ≡ out.old.items
+        ++ end_text is_stale asked.now.deal (all_entries known.now) asked.now.me calls.now landing.now) }
 {
     match (calls, landing) {
-        ([], []) => put_rest(out, deal, known, me),
+        ([], []) => put_rest(out, is_stale, &asked.deal, known, asked.me),
         _ => Ok(()),
     }
 }

@@ -4,11 +4,10 @@ ghost use Rattle.std.specs.Prelude.{◌≡◌, ◌<◌, IfOk, length};
 ghost use Rattle.swap_digraph.specs.Deal.{IsWellSized};
 ghost use Rattle.history_index.specs.Indexes.{all_entries, AreIndexes};
 ghost use Rattle.conduct_check.specs.Sent.{party_unlocks, shown};
-ghost use Rattle.party_answer.specs.Actions.{due_call_action};
+ghost use Rattle.useful_calls.specs.Actions.{due_call_action};
 ghost use Rattle.answer_rules.specs.Heights.{IsShort};
 ghost use Rattle.party_answer.specs.Lines.{last_helpful, timed};
 
-use crate::due_call::DueCall;
 use answer_rules::{last_accepted, last_on_time};
 use hashkey_path::Hashkey;
 use history_index::Index;
@@ -16,6 +15,7 @@ use ledger_core::Call;
 use swap_base::{ArcId, NoMemory, PartyId, TryCopy};
 use swap_digraph::Deal;
 use time_bounds::opening_deadline;
+use useful_calls::DueCall;
 
 /// A call that is useful on an arc.
 #[derive(Debug, Drop)]

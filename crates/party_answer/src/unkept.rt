@@ -1,16 +1,19 @@
 //! Unlocks of a party with hashkeys that it never kept.
 
-ghost use Rattle.std.specs.Prelude.{◌≡◌, ◌≤◌, IfOk, OnOk, length, option_copied};
+ghost use Rattle.std.specs.Prelude.{◌≡◌, ◌≤◌, IfOk, OnOk, length};
 ghost use Rattle.swap_rules.specs.Conduct.{is_first_key as is_first};
+ghost use Rattle.swap_digraph.specs.Deal.{IsWellSized};
 ghost use Rattle.party_wallet.specs.Value.{signed_hashkey};
-ghost use Rattle.party_answer.specs.Unkept.{all_unkept, has_lock, stopped_locks, with_unlock, with_unlocks};
+ghost use Rattle.party_answer.specs.Unkept.{all_unkept, has_lock, noted_locks, unkept_locks, with_unlock, with_unlocks};
 
 use conduct_check::is_first_key;
 use hashkey_path::Hashkey;
 use party_wallet::Signed;
 use std::alloc::Global;
 use swap_base::{ArcId, LockId, NoMemory};
+use swap_digraph::{Deal, is_listed};
 use told_ledgers::{OwnUnlock, ToldLedger};
+use useful_calls::kept_key;
 
 /// The first unlock for that lock on the arc with a hashkey that isn't the one that was kept, by
 /// its number among all lines of the arc's ledger.
@@ -19,16 +22,6 @@ pub struct Unkept {
     pub arc: ArcId,
     pub entry: u32,
     pub lock: LockId,
-}
-
-/// The hashkey that was kept for the lock, if any.
-pub(crate) fn kept_key(kept: &Signed, lock: LockId) -> Option<&Hashkey>
-    ensures { option_copied result ≡ signed_hashkey kept.now.keys lock }
-{
-    match kept.keys.as_slice().get(lock as usize) {
-        Some(Some(key)) => Some(key),
-        _ => None,
-    }
 }
 
 /// Whether the hashkey is the one that was kept for its lock.
@@ -101,9 +94,27 @@ pub(crate) fn all_unkept(
     Ok(list)
 }
 
+/// The locks whose notes are torn or differ, ascending.
+pub(crate) fn noted_locks(
+    alloc: Global,
+    deal: &Deal,
+    noted: &[LockId],
+) -> Result<Vec<LockId>, NoMemory>
+    requires { IsWellSized deal.now }
+    ensures { IfOk result (λ v. v.items ≡ noted_locks deal.now noted.now) }
+{
+    let mut locks = Vec::new(alloc);
+    for lock in 0..deal.leaders.len() as LockId {
+        if is_listed(lock, noted) {
+            locks.push(lock)?;
+        }
+    }
+    Ok(locks)
+}
+
 /// The locks of these.
-pub(crate) fn stopped_locks(alloc: Global, list: &[Unkept]) -> Result<Vec<LockId>, NoMemory>
-    ensures { IfOk result (λ v. v.items ≡ stopped_locks list.now) }
+pub(crate) fn unkept_locks(alloc: Global, list: &[Unkept]) -> Result<Vec<LockId>, NoMemory>
+    ensures { IfOk result (λ v. v.items ≡ unkept_locks list.now) }
 {
     let mut locks = Vec::new(alloc);
     for unkept in list {

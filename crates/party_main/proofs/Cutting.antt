@@ -7,7 +7,7 @@ use Rattle.swap_base.specs.declared.fault.Fault.{Fault}
 use Rattle.swap_base.specs.declared.fault.Fault.TheVariants.{Refused}
 use Rattle.swap_base.specs.Fault.{◌>>=◌, Fails, Gives}
 use Rattle.party_answer.specs.declared.given.Answer.{Answer}
-use Rattle.party_answer.specs.declared.reason.AnswerReason.{AnswerReason}
+use Rattle.party_notes.specs.declared.reason.AnswerReason.{AnswerReason}
 use Rattle.party_answer.specs.Promised.{IsTextAnswer}
 use Rattle.party_main.specs.Next.{Cut, answer_parts, cut, cut_short, ended_output, read_first_seed_line, IsInputAnswer, IsPartsAnswer}
 

@@ -21,7 +21,7 @@ party_exit_number TooLong = 7
 unfoldable pub party_error_lines : PartyStatus → List ℕ
 party_error_lines Done = []
 party_error_lines Warned = []
-party_error_lines WrongWords = codes "swap: wrong words\nusage: party keys NAME | deal | terms NAME | next NAME\n"
+party_error_lines WrongWords = codes "swap: wrong words\nusage: party keys NAME | deal | terms NAME | next NAME | judge [--json]\n"
 party_error_lines (Refused reason) = reason_line reason
 party_error_lines ReadFault = codes "swap: read fault\n"
 party_error_lines WriteFault = codes "swap: write fault\n"

@@ -7,8 +7,8 @@ use Rattle.command_input.specs.declared.refusal.Refusal.{Refusal}
 use Rattle.party_rows.specs.Digests as digests
 use Rattle.party_rows.specs.Lines.{is_ended, nameless}
 use Rattle.party_answer.specs.declared.given.Answer.{Answer}
-use Rattle.party_answer.specs.declared.reason.AnswerReason.{AnswerReason}
-use Rattle.party_answer.specs.declared.reason.AnswerReason.TheVariants.{Refused}
+use Rattle.party_notes.specs.declared.reason.AnswerReason.{AnswerReason}
+use Rattle.party_notes.specs.declared.reason.AnswerReason.TheVariants.{Refused}
 use Rattle.party_answer.specs.Promised.{IsTextAnswer}
 use Rattle.party_answer.specs.Text.{answer_told}
 

@@ -6,11 +6,16 @@ use Rattle.party_rows.specs.Dealt.{IsDealtText}
 use Rattle.party_rows.specs.Keys.{deal_output, keys_output}
 use Rattle.party_terms.specs.Terms.{terms_output}
 use Rattle.party_answer.specs.declared.given.Answer.{Answer}
-use Rattle.party_answer.specs.declared.reason.AnswerReason.{AnswerReason}
+use Rattle.party_notes.specs.declared.reason.AnswerReason.{AnswerReason}
 use Rattle.party_main.specs.declared.command.Command.{Command}
-use Rattle.party_main.specs.declared.command.Command.TheVariants.{Keys, Deal, Terms, Next}
+use Rattle.party_main.specs.declared.command.Command.TheVariants.{Keys, Deal, Terms, Next, Judge}
 use Rattle.party_main.specs.declared.reason.PartyReason.{PartyReason}
 use Rattle.party_main.specs.declared.reason.PartyReason.TheVariants as reasons
+use Rattle.command_input.specs.Written.{Written}
+use Rattle.party_judge.specs.declared.form.Form.{Form}
+use Rattle.party_judge.specs.declared.reason.JudgeReason.{JudgeReason}
+use Rattle.party_judge.specs.Output.{judge_output}
+use Rattle.party_judge.specs.Promised.{IsJudgement}
 use Rattle.party_main.specs.Next.{next_output, IsInputAnswer}
 
 -- a text in which nothing warns
@@ -29,17 +34,27 @@ abbrev pub by_answer : Result Answer AnswerReason → Result Answer PartyReason
 by_answer (Ok answer) = Ok answer
 by_answer (Err reason) = Err (reasons.Next reason)
 
+-- a judgement warns where something is found
+abbrev pub by_judgement : Result Written JudgeReason → Result Answer PartyReason
+by_judgement (Ok w) = Ok (record { text = w.text; warns = w.found })
+by_judgement (Err reason) = Err (reasons.Judge reason)
+
+abbrev pub IsPromisedJudgement : Form → List ℕ → Answer → Type 0
+IsPromisedJudgement form input answer = IsJudgement form input (record { text = answer.text; found = answer.warns })
+
 -- what is written of an input for a command
 abbrev pub party_output : Command → List ℕ → Result Answer PartyReason
 party_output (Keys name) input = by_header (keys_output name input)
 party_output Deal input = by_deal (deal_output input)
 party_output (Terms name) input = by_header (terms_output name input)
 party_output (Next name) input = by_answer (next_output name input)
+party_output (Judge form) input = by_judgement (judge_output form input)
 
 -- What holds of what is written of an input beside: a deal's line is that of an accepted deal, and
--- an answer is promised.
+-- an answer and a judgement are promised.
 abbrev pub IsPromisedOutput : Command → List ℕ → Answer → Type 0
 IsPromisedOutput (Keys name) input answer = Unit {0}
 IsPromisedOutput Deal input answer = IsDealtText answer.text
 IsPromisedOutput (Terms name) input answer = Unit {0}
 IsPromisedOutput (Next name) input answer = IsInputAnswer name input answer
+IsPromisedOutput (Judge form) input answer = IsPromisedJudgement form input answer

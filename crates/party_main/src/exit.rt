@@ -20,7 +20,7 @@ pub fn ending(alloc: Global, status: PartyStatus) -> Exit
         PartyStatus::Warned => Exit::of_words(1, ""),
         PartyStatus::WrongWords => Exit::of_words(
             2,
-            "swap: wrong words\nusage: party keys NAME | deal | terms NAME | next NAME\n",
+            "swap: wrong words\nusage: party keys NAME | deal | terms NAME | next NAME | judge [--json]\n",
         ),
         PartyStatus::Refused(reason) => match reason_line(alloc, &reason) {
             Ok(line) => Exit {

@@ -12,7 +12,7 @@ mod output;
 mod reason;
 mod top;
 
-pub use command::{Command, NEXT_LIMIT, SHORT_LIMIT};
+pub use command::{Command, JUDGE_LIMIT, NEXT_LIMIT, SHORT_LIMIT};
 pub use command_input::{Exit, Told};
 pub use exit::ending;
 pub use reason::{PartyFault, PartyReason, reason_line};

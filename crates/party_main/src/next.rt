@@ -8,7 +8,8 @@ ghost use Rattle.party_main.specs.Next.{answer_parts, cut_short, ended_output, n
 
 use command_input::{Reason, nameless};
 use memchr::memchr;
-use party_answer::{Answer, AnswerFault, AnswerReason, answer};
+use party_answer::{Answer, answer};
+use party_notes::{AnswerFault, AnswerReason};
 use std::alloc::Global;
 use swap_base::{Digest, Fault};
 

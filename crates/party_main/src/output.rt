@@ -6,12 +6,14 @@ ghost use Rattle.party_rows.specs.Dealt.{IsDealtText};
 ghost use Rattle.party_rows.specs.Keys.{deal_output, keys_output};
 ghost use Rattle.party_terms.specs.Terms.{terms_output};
 ghost use Rattle.party_main.specs.Next.{next_output, IsInputAnswer};
-ghost use Rattle.party_main.specs.Output.{by_answer, by_deal, by_header, party_output, IsPromisedOutput};
+ghost use Rattle.party_judge.specs.Output.{judge_output};
+ghost use Rattle.party_main.specs.Output.{by_answer, by_deal, by_header, by_judgement, party_output, IsPromisedOutput, IsPromisedJudgement};
 
 use crate::command::Command;
 use crate::next::next;
-use crate::reason::{PartyFault, answer_fault, deal_fault, header_fault};
+use crate::reason::{PartyFault, answer_fault, deal_fault, header_fault, judge_fault};
 use party_answer::Answer;
+use party_judge::{Form, Judgement, judge};
 use party_rows::{deal, keys};
 use party_terms::terms;
 use std::alloc::Global;
@@ -54,6 +56,16 @@ fn next_written(alloc: Global, name: &[u8], input: &[u8]) -> Result<Answer, Part
     }
 }
 
+fn judge_written(alloc: Global, form: Form, input: &[u8]) -> Result<Answer, PartyFault>
+    ensures exact { Gives (λ a. a) result (by_judgement (judge_output form input.now)) }
+    ensures judgement { IfOk result (λ a. IsPromisedJudgement form input.now a) }
+{
+    match judge(alloc, form, input) {
+        Ok(Judgement { text, found }) => Ok(Answer { text, warns: found }),
+        Err(fault) => Err(judge_fault(fault)),
+    }
+}
+
 /// What is written of an input for a command. It warns where a line of it tells of something that
 /// should not be.
 pub(crate) fn party_output(
@@ -69,5 +81,6 @@ pub(crate) fn party_output(
         Command::Deal => deal_written(alloc, input),
         Command::Terms(name) => terms_written(alloc, name.as_slice(), input),
         Command::Next(name) => next_written(alloc, name.as_slice(), input),
+        Command::Judge(form) => judge_written(alloc, *form, input),
     }
 }

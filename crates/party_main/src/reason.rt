@@ -2,10 +2,11 @@
 
 ghost use Rattle.std.specs.Prelude.{◌≡◌, IfOk};
 ghost use Rattle.command_input.specs.StandardError.{refusal_text};
-ghost use Rattle.party_main.specs.Reasons.{answer_fault, answer_line, deal_fault, deal_line, header_fault, reason_line};
+ghost use Rattle.party_main.specs.Reasons.{answer_fault, answer_line, deal_fault, deal_line, header_fault, judge_fault, judge_line, not_agreed_line, reason_line};
 
 use command_input::{HeaderFault, Refusal, refusal_text};
-use party_answer::{AnswerFault, AnswerReason};
+use party_judge::{JudgeFault, JudgeReason};
+use party_notes::{AnswerFault, AnswerReason};
 use party_rows::{DealFault, DealReason};
 use run_texts::put_digits;
 use std::alloc::Global;
@@ -20,6 +21,8 @@ pub enum PartyReason {
     Deal(DealReason),
     /// Why nothing is answered.
     Next(AnswerReason),
+    /// Why nothing is judged.
+    Judge(JudgeReason),
 }
 
 /// Why nothing is written: a reason, or want of memory.
@@ -48,6 +51,15 @@ pub(crate) fn answer_fault(fault: AnswerFault) -> PartyFault
 {
     match fault {
         Fault::Refused(reason) => Fault::Refused(PartyReason::Next(reason)),
+        Fault::NoMemory => Fault::NoMemory,
+    }
+}
+
+pub(crate) fn judge_fault(fault: JudgeFault) -> PartyFault
+    ensures { result ≡ judge_fault fault }
+{
+    match fault {
+        Fault::Refused(reason) => Fault::Refused(PartyReason::Judge(reason)),
         Fault::NoMemory => Fault::NoMemory,
     }
 }
@@ -85,7 +97,7 @@ fn deal_line(alloc: Global, reason: &DealReason) -> Result<ByteText, NoMemory>
 }
 
 fn not_agreed(alloc: Global, digest: &Digest) -> Result<ByteText, NoMemory>
-    ensures { IfOk result (λ t. t ≡ answer_line (AnswerReason.NotAgreed digest.now)) }
+    ensures { IfOk result (λ t. t ≡ not_agreed_line digest.now) }
 {
     let mut line = Vec::new(alloc);
     put(&mut line, &[Piece::Text("swap: refused: NotAgreed ")])?;
@@ -103,6 +115,15 @@ fn answer_line(alloc: Global, reason: &AnswerReason) -> Result<ByteText, NoMemor
     }
 }
 
+fn judge_line(alloc: Global, reason: &JudgeReason) -> Result<ByteText, NoMemory>
+    ensures { IfOk result (λ t. t ≡ judge_line reason.now) }
+{
+    match reason {
+        JudgeReason::Refused(refusal) => refusal_line(alloc, refusal),
+        JudgeReason::NotAgreed(digest) => not_agreed(alloc, digest),
+    }
+}
+
 /// The line that tells why nothing is written.
 pub fn reason_line(alloc: Global, reason: &PartyReason) -> Result<ByteText, NoMemory>
     ensures { IfOk result (λ t. t ≡ reason_line reason.now) }
@@ -111,5 +132,6 @@ pub fn reason_line(alloc: Global, reason: &PartyReason) -> Result<ByteText, NoMe
         PartyReason::Header(refusal) => refusal_line(alloc, refusal),
         PartyReason::Deal(reason) => deal_line(alloc, reason),
         PartyReason::Next(reason) => answer_line(alloc, reason),
+        PartyReason::Judge(reason) => judge_line(alloc, reason),
     }
 }

@@ -5,11 +5,15 @@ use Rattle.swap_job.specs.declared.job.Job.{Job}
 use Rattle.command_input.specs.declared.refusal.Refusal.{Refusal}
 use Rattle.audit_command.specs.Header.{parse_deal_header}
 use Rattle.party_answer.specs.declared.given.Answer.{Answer}
-use Rattle.party_answer.specs.declared.reason.AnswerReason.{AnswerReason}
+use Rattle.party_notes.specs.declared.reason.AnswerReason.{AnswerReason}
 use Rattle.party_answer.specs.Promised.{IsTextAnswer}
 use Rattle.party_rows.specs.Dealt.{IsDealtText}
 use Rattle.party_rows.specs.declared.reason.DealReason.{DealReason}
-use Rattle.party_main.specs.declared.reason.PartyReason.TheVariants.{Header, Deal, Next}
+use Rattle.command_input.specs.Written.{Written}
+use Rattle.party_judge.specs.declared.form.Form.TheVariants.{Lines}
+use Rattle.party_judge.specs.declared.reason.JudgeReason.{JudgeReason}
+use Rattle.party_judge.specs.Promised.{IsJudgement}
+use Rattle.party_main.specs.declared.reason.PartyReason.TheVariants.{Header, Deal, Next, Judge}
 use Rattle.party_main.specs.Reasons.{reason_line}
 use Rattle.swap_party.specs.declared.said.Said.{Said}
 
@@ -57,6 +61,14 @@ answer_status false = 0
 abbrev pub IsAnswerSaid : Asked → Result Answer AnswerReason → List ℕ → List ℕ → Said → Type 0
 IsAnswerSaid q (Ok answer) old new said = IsTextAnswer 2 q.name q.seed q.text answer × IsSaid (answer_status answer.warns) answer.text old new said
 IsAnswerSaid q (Err reason) old new said = IsSaid 3 (reason_line (Next reason)) old new said
+
+-- ---- a judgement
+
+-- status 0, or 2 where something is found, with the judgement, which is promised; or 3 with the line
+-- of the first reason against the text
+abbrev pub IsJudgeSaid : List ℕ → Result Written JudgeReason → List ℕ → List ℕ → Said → Type 0
+IsJudgeSaid text (Ok w) old new said = IsJudgement Lines text w × IsSaid (answer_status w.found) w.text old new said
+IsJudgeSaid text (Err reason) old new said = IsSaid 3 (reason_line (Judge reason)) old new said
 
 -- ---- a header
 

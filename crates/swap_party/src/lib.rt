@@ -11,6 +11,7 @@
 mod answer;
 mod check;
 mod deal;
+mod judge;
 mod keys;
 mod next;
 mod said;
@@ -19,6 +20,7 @@ mod terms;
 pub use answer::swap_party_answer;
 pub use check::swap_party_check;
 pub use deal::swap_party_deal;
+pub use judge::swap_party_judge;
 pub use keys::swap_party_keys;
 pub use next::swap_party_next;
 pub use said::Said;

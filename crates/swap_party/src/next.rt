@@ -1,22 +1,15 @@
 //! What is due for a party.
 
-ghost use Rattle.std.specs.Prelude.{◌≡◌};
 ghost use Rattle.std.specs.Prelude.{◌⊎◌, ◌≤◌, ◌<◌, length};
 ghost use Rattle.party_answer.specs.Text.{answer_told};
 ghost use Rattle.party_main.specs.Words.{next_limit};
-ghost use Rattle.swap_party.specs.Said.{answer_status, IsAnswerSaid, IsNothing};
+ghost use Rattle.swap_party.specs.Said.{IsAnswerSaid, IsNothing};
 
-use crate::said::{DONE, NO_MEMORY, Said, TOO_LONG, WARNED, say, say_nothing, say_reason};
+use crate::said::{NO_MEMORY, Said, TOO_LONG, answer_status, say, say_nothing, say_reason};
 use party_answer::answer;
 use party_main::{NEXT_LIMIT, PartyReason};
 use std::alloc::Global;
 use swap_base::{Digest, Fault};
-
-fn answer_status(warns: bool) -> u32
-    ensures { result ≡ answer_status warns }
-{
-    if warns { WARNED } else { DONE }
-}
 
 /// Answers all that is due for the party of that name with that seed, as `party next` does: what
 /// its wallet wrote down and a transcript of each ledger as far as it is known go in, without the

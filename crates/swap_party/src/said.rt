@@ -2,7 +2,7 @@
 
 ghost use Rattle.std.specs.Prelude.{◌≡◌, ◌⊎◌};
 ghost use Rattle.party_main.specs.Reasons.{reason_line};
-ghost use Rattle.swap_party.specs.Said.{IsNothing, IsSaid};
+ghost use Rattle.swap_party.specs.Said.{answer_status, IsNothing, IsSaid};
 
 use party_main::{PartyReason, reason_line};
 use std::alloc::Global;
@@ -44,6 +44,13 @@ pub(crate) fn say(status: u32, text: &[u8], out: &mut [u8]) -> Said
     }
     out[..length].copy_from_slice(text);
     Said { status, length }
+}
+
+/// The status of an answer, by whether it warns.
+pub(crate) fn answer_status(warns: bool) -> u32
+    ensures { result ≡ answer_status warns }
+{
+    if warns { WARNED } else { DONE }
 }
 
 /// Says that status without a text.

@@ -2,8 +2,8 @@ use Rattle.std.proofs.Common.{Result, sym, subst}
 use Rattle.std.specs.Prelude.{IfOk}
 use Rattle.swap_base.specs.Fault.{Gives}
 use Rattle.party_answer.specs.declared.given.Answer.{Answer}
-use Rattle.party_answer.specs.declared.reason.AnswerReason.{AnswerReason}
-use Rattle.party_answer.specs.Asked.{PartyQuestion, said_asked}
+use Rattle.party_notes.specs.declared.reason.AnswerReason.{AnswerReason}
+use Rattle.party_notes.specs.Asked.{PartyQuestion, said_asked}
 use Rattle.party_answer.specs.Text.{said_answer}
 use Rattle.party_answer.specs.Promised.{IsPromisedAnswer}
 use Rattle.party_answer.proofs.Asking.{lines_give, lines_refused}

@@ -6,9 +6,9 @@ use Rattle.swap_digraph.specs.declared.deal.Deal.{Deal}
 use Rattle.escrow_core.specs.Terms.{stated_terms}
 use Rattle.ledger_core.specs.declared.entry.Call.TheVariants.{Publish}
 use Rattle.history_index.specs.Indexes.{all_entries}
-use Rattle.swap_rules.specs.Due.{Action, when_due}
-use Rattle.party_answer.specs.Actions.{actions}
-use Rattle.party_answer.specs.Landing.{may_land}
+use Rattle.swap_rules.specs.Due.{when_due}
+use Rattle.useful_calls.specs.Actions.{actions}
+use Rattle.useful_calls.specs.Landing.{may_land}
 use Rattle.party_answer.specs.declared.timed.Timed.{Timed}
 use Rattle.party_answer.specs.Inside.{AreMeasured}
 use Rattle.party_answer.specs.Lines.{timed}

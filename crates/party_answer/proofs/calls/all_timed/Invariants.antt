@@ -1,6 +1,6 @@
 use Rattle.std.proofs.Common.{◌≡◌, map, take}
 use Rattle.history_index.specs.Indexes.{all_entries}
-use Rattle.party_answer.specs.Actions.{actions}
+use Rattle.useful_calls.specs.Actions.{actions}
 use Rattle.party_answer.specs.Lines.{timed}
 use Rattle.party_answer.proofs.calls.all_timed.Given as goal
 

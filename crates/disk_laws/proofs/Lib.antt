@@ -1,0 +1,7 @@
+mod Torn
+mod Images
+mod Whole
+mod Grown
+mod Telling
+mod DiskRuns
+mod AnyRun

@@ -1,0 +1,4 @@
+pub mod DiskCalls
+pub mod DiskRun
+pub mod Laws
+pub mod AnyRun

@@ -1,6 +1,0 @@
-use Rattle.std.proofs.Common.{◌≡◌, take}
-use Rattle.party_answer.specs.Unkept.{stopped_locks}
-use Rattle.party_answer.proofs.unkept.stopped_locks.Given as goal
-
-abbrev pub invariant-loop-unkept : goal.invariant-loop-unkept
-invariant-loop-unkept l = l.locks.items ≡ stopped_locks (take l.unkept-index l.list)

@@ -1,5 +1,0 @@
-use Rattle.std.proofs.Common.{length}
-use Rattle.party_answer.proofs.withheld.+has_revealed.Given as goal
-
-abbrev pub decreases-has_revealed : goal.decreases-has_revealed
-decreases-has_revealed l = length l.known.now

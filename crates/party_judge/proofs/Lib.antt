@@ -1,0 +1,4 @@
+pub mod WholeBook
+pub mod Promises
+pub mod Binding
+pub mod Harmless

@@ -1,0 +1,13 @@
+use Rattle.std.proofs.Common.{refl}
+use Rattle.swap_base.proofs.Lines.{lines_on, lines_done}
+use Rattle.party_judge.specs.Marks.{mark_line}
+use Rattle.party_judge.proofs.marks.put_marks.Goals as goal
+
+pub loop-number-preserved : goal.loop-number-preserved
+loop-number-preserved c = lines_on (mark_line c.args.deal.now c.args.ended)
+    c.loop-number.out.items c.put_mark.new.out.items _ c.loop-number.number c.args.findings.now c.loop-number.number _ _ c.loop-number-test.true refl
+    c.in_ok-put_mark.ensures c.loop-number.invariant
+
+pub returns : goal.returns
+returns c = lines_done (mark_line c.args.deal.now c.args.ended)
+    c.loop-number.out.items _ c.loop-number.number c.args.findings.now c.loop-number.number c.loop-number-test.false c.loop-number.invariant

@@ -1,0 +1,12 @@
+pub mod Faults
+pub mod Agreements
+pub mod Behind
+pub mod Ledgers
+pub mod Told
+pub mod Marks
+pub mod Json
+pub mod Harmless
+pub mod Output
+pub mod Laws
+pub mod Promised
+pub mod Inside
