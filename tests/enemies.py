@@ -37,7 +37,7 @@ from model.texts import call_words, report, transcript, words
 from model.transcripts import call_of, entry_of
 
 from swap_party import Answer as Answered
-from swap_party import Asked, Bad, Due, Keep, Landing, Margin, Now, Publish, Row, Sent, Unkept, agreed_digest
+from swap_party import Asked, Bad, Due, Keep, Landing, Margin, Now, Publish, Row, Seen, Sent, Stale, Stopped, Unkept, agreed_digest
 from swap_party import Ledger as Told
 from swap_party import Terms as AgreedTerms
 from swap_party.answer import Note, note_of
@@ -112,6 +112,15 @@ class Unlimited(Ledger):
         return replying(sender, call)
 
 
+class Lost(NamedTuple):
+    """A call that a chain took back and, of one that an honest wallet presented, the last height at
+    which it stands for good."""
+
+    sender: int
+    call: Call
+    last: Optional[int]
+
+
 class Chain:
     """The chain of an arc, with all that stands on it as lines. Whoever likes may call it, and of
     calls that no line can tell it refuses or accepts whatever it likes: then its contract is strange."""
@@ -121,6 +130,8 @@ class Chain:
         self.lines: list[str] = []
         self.heights: list[int] = [0]
         self.is_strange = False
+        # (the last heights at which the calls of honest wallets stand for good, by their entries)
+        self.lasts: dict[int, int] = {}
         # (hashkeys that were presented, which all can read)
         self.shown: list[Hashkey] = []
         self.shown_by: dict[int, set[Hashkey]] = {}
@@ -137,30 +148,41 @@ class Chain:
         """How many lines lie as deep as that."""
         return max(at for at, height in enumerate(self.heights) if height <= max(0, self.height - depth))
 
-    def take_back(self, depth: int) -> list[tuple[int, Call]]:
+    def take_back(self, depth: int, chance: random.Random) -> list[Lost]:
         """Stands as it did before the last heights, and then rises as high again. The calls that it
-        takes back wait to land anew."""
+        takes back wait to land anew, but those whose time to land ends below its height: they stand on
+        the other branch too, by then."""
         stays, height, is_strange = self.final(depth), self.height, self.is_strange
-        entries, lines = list(self.ledger.entries), self.lines
+        entries, lines, lasts = list(self.ledger.entries), self.lines, self.lasts
         if is_strange or len(lines) != len(entries):
             return []
-        lost = [(it.sender, it.call) for it in entries[stays:] if it.sender is not None]
-        self.ledger, self.lines, self.heights = Unlimited(self.ledger.deal, self.arc), [], [0]
-        for entry in entries[:stays]:
+        lost = [Lost(it.sender, it.call, lasts.get(at)) for at, it in enumerate(entries) if at >= stays and it.sender is not None]
+        self.ledger, self.lines, self.heights, self.lasts = Unlimited(self.ledger.deal, self.arc), [], [0], {}
+        for at, entry in enumerate(entries[:stays]):
             if entry.sender is None:
                 self.tick(entry.call.stated)
             else:
-                self.call(entry.sender, entry.call)
+                self.call(entry.sender, entry.call, lasts.get(at))
+        ending = [it for it in lost if it.last is not None and it.last < height]
+        for it in sorted(ending, key=lambda it: it.last or 0):
+            self.rise_to(chance.randint(self.height, it.last or 0))
+            self.call(it.sender, it.call, it.last)
+        self.rise_to(height)
+        return [it for it in lost if it.last is None or it.last >= height]
+
+    def rise_to(self, height: int) -> None:
         if height > self.height:
             self.tick(height - self.height)
-        return lost
 
     def tick(self, by: int) -> None:
         self.ledger.push(None, Call(TICK, by), ACCEPTED)
         self.write(f"t {by}", by)
 
-    def call(self, sender: int, call: Call) -> Reply:
-        """A call of a party of the arc."""
+    def call(self, sender: int, call: Call, last: Optional[int] = None) -> Reply:
+        """A call of a party of the arc and, of one that an honest wallet presented, the last height at
+        which it stands for good."""
+        if last is not None:
+            self.lasts[len(self.lines)] = last
         if self.is_strange and call.kind != TRANSFER:
             reply: Reply = ("Settled",)
         else:
@@ -372,17 +394,26 @@ class Wallet:
     def heard(self, answer: Answered, told: dict[int, list[str]]) -> None:
         """What an answer says of how long it may rest, by what was read of its ledgers."""
         bad = {it.arc: it.entry for it in answer.warnings if isinstance(it, Bad)}
-        is_doubted = any(isinstance(it, Unkept) for it in answer.warnings)
+        is_doubted = any(isinstance(it, (Unkept, Stopped)) for it in answer.warnings)
         must(not is_doubted, f"{self.name} is told that its seed is another's: {answer.warnings}")
         rest = answer.rest
         self.asked_at = min(risen(told[arc][: bad.get(arc, len(told[arc]))]) for arc in self.near)
+        self.see({arc: risen(lines) for arc, lines in told.items() if arc not in bad}, answer)
         if rest is not None and not answer.warnings:
             self.quiet = self.calls(), getattr(rest, "until", None)
+
+    def see(self, heights: dict[int, int], answer: Answered) -> None:
+        """Notes how high it saw its ledgers, now and then. A node may lag behind; a chain that took
+        back too much is seen anew."""
+        if self.swap.is_deep and any(isinstance(it, Stale) for it in answer.warnings):
+            self.notes = [it for it in self.notes if not isinstance(it, Seen)]
+        elif self.chance.random() < 0.1 and not self.crashes:
+            self.notes += [Seen(arc, height) for arc, height in heights.items()]
 
     def ask(self) -> Answered:
         """Asks what is due over what it sees, or is shown."""
         told = self.told()
-        if self.chance.random() < 0.05:
+        if self.chance.random() < 0.05 and not any(isinstance(it, Seen) for it in self.notes):
             self.falsified(told)
         if self.chance.random() < 0.05:
             self.refuses_another_deal(told)
@@ -412,7 +443,7 @@ class Wallet:
             for told in answer.told:
                 self.obey(told)
             # (what it presented lands in time: then it is done with what it saw)
-            if not any(isinstance(it, Keep) for it in answer.told):
+            if not any(isinstance(it, (Keep, Stale)) for it in answer.told):
                 self.rested = max(self.rested, self.asked_at)
         except Crashed:
             self.journal.crash(self.chance)
@@ -428,7 +459,7 @@ class Wallet:
             if last >= height if at == arc else arc is not None or self.chance.random() < 0.3:
                 left.append((at, call, last))
                 continue
-            reply = self.swap.chains[at].call(self.me, call)
+            reply = self.swap.chains[at].call(self.me, call, last)
             is_useful = reply[0] not in ("TooLate", "WrongPath", "WrongSignature", "WrongSecret", "NotCounterparty", "NotParty", "StillLocked")
             must(is_useful or self.swap.is_deep, f"{self.name} was answered {call_words(call)[:30]}, which is refused: {words(reply)}")
         self.pending = left
@@ -663,13 +694,12 @@ class Swap:
         deepest = self.depth + self.chance.randint(1, self.agreed.deal.delta) if self.is_deep and self.chance.random() < 0.1 else self.depth
         if not deepest or self.chance.random() > 0.2:
             return
-        height = self.chains[arc].height
-        for sender, call in self.chains[arc].take_back(deepest):
-            near = [it for it in self.wallets if it.me == sender]
-            if near:
-                near[0].pending.append((arc, call, height + near[0].margin))
+        for lost in self.chains[arc].take_back(deepest, self.chance):
+            near = [it for it in self.wallets if it.me == lost.sender]
+            if near and lost.last is not None:
+                near[0].pending.append((arc, lost.call, lost.last))
             elif self.chance.random() < 0.7:
-                self.chains[arc].call(sender, call)
+                self.chains[arc].call(lost.sender, lost.call)
 
     def run(self) -> None:
         """Until every chain is above the horizon, and every wallet at rest there."""
@@ -706,6 +736,18 @@ class Swap:
                     must(reply == entry.reply, f"what {me} needs of ledger {ledger.arc}: {reply} in place of {entry.reply}")
         return View(deal, ledgers, [len(ledger.entries) for ledger in ledgers])
 
+    def is_withheld(self, it: Wallet, late: tuple[str, int, int]) -> bool:
+        """Whether lateness is of a publish that the wallet walked away from, or that might land where
+        contracts don't open any more.
+
+        All else is on time. A call comes due where a ledger rises, or is called, above a height h: a
+        refund above an expiry. Where the wallet last rested before it, one of its ledgers was told no
+        higher than h, and so `rested` is at most h. From there each of its chains rises at most by
+        delta - margin before the wallet presents the call, which then stands for good within margin:
+        at h + delta. A publish isn't answered only if that is above the deadline."""
+        rule, _, due = late
+        return rule == PUBLISH and (it.walks_at is not None or due > self.agreed.deal.open_by)
+
     def judge(self, it: Wallet) -> None:
         """By the rule book, and by an audit."""
         keys = {key for chain in self.chains for key in chain.shown_by.get(it.me, ())}
@@ -713,11 +755,10 @@ class Swap:
         if self.is_deep:
             return
         book, deal, me = self.needed(it.me), self.agreed.deal, it.me
-        late = [rule for rule, _, _ in lateness(book, me)]
+        late = [said for said in lateness(book, me) if not self.is_withheld(it, said)]
         must(not any(breaches(book, me)), f"{it.name} broke its conduct: {list(breaches(book, me))}")
         must(not any(forgeries(book, me)), f"in the name of {it.name}: {list(forgeries(book, me))}")
-        # (the clocks' law speaks of unlocks and claims; a late refund costs nothing)
-        must(set(late) <= {PUBLISH, REFUND}, f"{it.name} is late: {list(lateness(book, me))}")
+        must(not late, f"{it.name} is late: {late}")
         must(is_watchful(book, me), f"{it.name} isn't watchful")
         must(outcome(book, me) != "Underwater" and has_refunds(book, me), f"{it.name} ends {outcome(book, me)}, refunds {has_refunds(book, me)}")
         conforming = [party == me for party in deal.parties]

@@ -20,8 +20,10 @@ extern "C" {
 
 typedef enum {
     SWAP_PARTY_LINE_UNKNOWN = 0,
-    SWAP_PARTY_LINE_BAD,     /* arc, entry */
+    SWAP_PARTY_LINE_STALE,   /* arc, height */
+    SWAP_PARTY_LINE_STOPPED, /* lock: the notes have no one hashkey for it */
     SWAP_PARTY_LINE_UNKEPT,  /* arc, entry, lock */
+    SWAP_PARTY_LINE_BAD,     /* arc, entry */
     SWAP_PARTY_LINE_KEEP,    /* lock, by, until; the whole line goes into the notes */
     SWAP_PARTY_LINE_PUBLISH, /* arc, party, by, until, call */
     SWAP_PARTY_LINE_UNLOCK,  /* arc, party, by, until, lock, call */
@@ -36,7 +38,7 @@ typedef enum {
 typedef struct {
     swap_party_line_kind kind;
     uint32_t arc, party, lock;
-    uint64_t entry, by, until;
+    uint64_t entry, height, by, until;
     int has_until;
     const uint8_t *text; /* the whole line, without its line feed */
     size_t length;
@@ -124,6 +126,20 @@ static inline swap_party_line_kind swap_party_call(swap_party_rest *rest, swap_p
     return SWAP_PARTY_LINE_UNKNOWN;
 }
 
+static inline swap_party_line_kind swap_party_unkept(swap_party_rest *rest, swap_party_line *line)
+{
+    if (!swap_party_small(rest, &line->arc))
+        return SWAP_PARTY_LINE_UNKNOWN;
+    if (rest->left == 0) {
+        line->lock = line->arc;
+        line->arc = 0;
+        return SWAP_PARTY_LINE_STOPPED;
+    }
+    if (swap_party_number(rest, &line->entry) && swap_party_small(rest, &line->lock) && rest->left == 0)
+        return SWAP_PARTY_LINE_UNKEPT;
+    return SWAP_PARTY_LINE_UNKNOWN;
+}
+
 static inline swap_party_line_kind swap_party_kind(swap_party_rest *rest, swap_party_line *line)
 {
     if (swap_party_take(rest, "call"))
@@ -132,9 +148,11 @@ static inline swap_party_line_kind swap_party_kind(swap_party_rest *rest, swap_p
         int is_whole = swap_party_small(rest, &line->lock) && swap_party_by(rest, line) && swap_party_until(rest, line);
         return is_whole && rest->left ? SWAP_PARTY_LINE_KEEP : SWAP_PARTY_LINE_UNKNOWN;
     }
-    if (swap_party_take(rest, "unkept")) {
-        int is_whole = swap_party_small(rest, &line->arc) && swap_party_number(rest, &line->entry) && swap_party_small(rest, &line->lock);
-        return is_whole && !rest->left ? SWAP_PARTY_LINE_UNKEPT : SWAP_PARTY_LINE_UNKNOWN;
+    if (swap_party_take(rest, "unkept"))
+        return swap_party_unkept(rest, line);
+    if (swap_party_take(rest, "stale")) {
+        int is_whole = swap_party_small(rest, &line->arc) && swap_party_number(rest, &line->height) && !rest->left;
+        return is_whole ? SWAP_PARTY_LINE_STALE : SWAP_PARTY_LINE_UNKNOWN;
     }
     if (swap_party_take(rest, "bad"))
         return swap_party_small(rest, &line->arc) && swap_party_number(rest, &line->entry) ? SWAP_PARTY_LINE_BAD : SWAP_PARTY_LINE_UNKNOWN;
@@ -171,7 +189,7 @@ static inline int swap_party_line_next(const uint8_t *text, size_t length, size_
 /* Whether it is a warning, which stands beside calls and never in their place. */
 static inline int swap_party_line_is_warning(const swap_party_line *line)
 {
-    return line->kind == SWAP_PARTY_LINE_BAD || line->kind == SWAP_PARTY_LINE_UNKEPT;
+    return line->kind >= SWAP_PARTY_LINE_STALE && line->kind <= SWAP_PARTY_LINE_BAD;
 }
 
 #ifdef __cplusplus

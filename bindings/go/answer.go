@@ -6,22 +6,26 @@ import (
 	"strings"
 )
 
-// WarningKind says what is wrong with a ledger.
+// WarningKind says what is wrong with a ledger or the notes.
 type WarningKind int
 
 const (
+	// Stale: the ledger of Arc is told below Height, at which it was seen.
+	Stale WarningKind = iota
+	// Stopped: the notes have no one hashkey for Lock.
+	Stopped
 	// Unkept: an unlock of the party, Entry of Arc, by a hashkey for Lock that isn't among the notes.
-	Unkept WarningKind = iota
+	Unkept
 	// Bad: Entry of Arc can't be read, or isn't what its contract replies.
 	Bad
 )
 
 // Warning stands beside what is due.
 type Warning struct {
-	Kind      WarningKind
-	Arc, Lock uint8
-	Entry     uint64
-	Line      string
+	Kind          WarningKind
+	Arc, Lock     uint8
+	Entry, Height uint64
+	Line          string
 }
 
 // LineKind says what is to be done, or waited for.
@@ -111,8 +115,14 @@ func (it *reader) end() { it.isWrong = it.isWrong || len(it.words) > 0 }
 
 func (it *Answer) take(line string, words *reader) {
 	switch kind := words.word(); kind {
+	case "stale":
+		it.Warnings = append(it.Warnings, Warning{Kind: Stale, Arc: words.small(), Height: words.number("", 64), Line: line})
 	case "unkept":
-		it.Warnings = append(it.Warnings, Warning{Kind: Unkept, Arc: words.small(), Entry: words.number("", 64), Lock: words.small(), Line: line})
+		if len(words.words) == 1 {
+			it.Warnings = append(it.Warnings, Warning{Kind: Stopped, Lock: words.small(), Line: line})
+		} else {
+			it.Warnings = append(it.Warnings, Warning{Kind: Unkept, Arc: words.small(), Entry: words.number("", 64), Lock: words.small(), Line: line})
+		}
 	case "bad":
 		it.Warnings = append(it.Warnings, Warning{Kind: Bad, Arc: words.small(), Entry: words.number("", 64), Line: line})
 		return

@@ -7,10 +7,10 @@ import (
 )
 
 func TestWarningsStandBesideCalls(t *testing.T) {
-	text := "bad 1 0 NotExpired 61 accepted\nunkept 1 4 0\nkeep 0 by 30 until 40 aa 0 bb\n" +
+	text := "stale 2 9\nunkept 1\nunkept 1 4 0\nbad 1 0 NotExpired 61 accepted\nkeep 0 by 30 until 40 aa 0 bb\n" +
 		"call 1 1 by 10 until 30 publish 10\ncall 2 1 by 70 refund\nlanding 3 by 10 until 30\n"
 	answer, err := Parse(text)
-	if err != nil || len(answer.Warnings) != 2 || len(answer.Lines) != 4 || answer.Rests {
+	if err != nil || len(answer.Warnings) != 4 || len(answer.Lines) != 4 || answer.Rests {
 		t.Fatalf("%v %v", answer, err)
 	}
 	if strings.Contains(fmt.Sprint(answer.Lines[0]), "aa") {

@@ -1,7 +1,7 @@
 // Package swapparty is the wallet of one party of an atomic swap across chains: the five calls of
 // libswap_party, and their answers as values.
 //
-// A warning (bad, unkept) stands beside the calls of an Answer, never in their place.
+// A warning (stale, unkept, bad) stands beside the calls of an Answer, never in their place.
 // docs/using/wallet.md says what a wallet does with each line.
 package swapparty
 

@@ -54,7 +54,7 @@ def main() -> None:
     else:
         party = Program(PARTY)
     context: list[str] = []
-    with Wallet(party, name, seed, os.path.join(folder, "notes"), chains, margins=chains.margins, allow_unproved=True, tell=lambda line: None) as wallet:
+    with Wallet(party, name, seed, os.path.join(folder, "notes"), chains, allow_unproved=True, tell=lambda line: None) as wallet:
         for line in lines:
             word, _, said = line.partition(" ")
             if word == "offer":
@@ -64,6 +64,7 @@ def main() -> None:
             elif word == "header":
                 say(f"agree {wallet.agree(said, context).agree}")
             elif word == "go":
+                wallet.margins.update(chains.margins)
                 step = wallet.step()
                 say("again" if step.has_kept else "rest")
             else:

@@ -20,11 +20,14 @@ class Chain:
     def __init__(self, folder: str, deal: Header, arc: int) -> None:
         self.path, self.contract = os.path.join(folder, f"chain{arc}"), Contract(deal, arc)
         self.entries: list[Entry] = []
+        self.lines: list[str] = []
         self.height, self.at = 0, 0
 
     def look(self) -> Chain:
         """Reads what is new. A line that isn't ended yet is being written, and is read the next
         time."""
+        if os.stat(self.path).st_size == self.at:
+            return self
         with open(self.path, "rb") as file:
             file.seek(self.at)
             text = file.read()
@@ -37,6 +40,7 @@ class Chain:
     def take(self, entry: Entry) -> None:
         """Follows an entry, and sees that the chain's reply is the contract's."""
         self.entries.append(entry)
+        self.lines.append(str(entry))
         if isinstance(entry, Tick):
             self.height += entry.by
             return

@@ -4,6 +4,7 @@ from __future__ import annotations
 
 import os
 import sys
+from functools import lru_cache
 from hashlib import sha256
 
 sys.path.insert(1, os.path.join(os.path.dirname(os.path.abspath(__file__)), "..", "..", "python"))
@@ -19,6 +20,7 @@ def digest(*parts: bytes) -> bytes:
     return sha256(b"".join(parts)).digest()
 
 
+@lru_cache(maxsize=1 << 12)
 def is_signed(public: bytes, message: bytes, sig: bytes) -> bool:
     """Whether each of the 67 values, carried on by 15 - d steps, gives ends whose digest is the
     public key."""

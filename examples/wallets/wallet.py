@@ -19,6 +19,7 @@ import os
 import sys
 import time
 from collections.abc import Callable
+from functools import lru_cache
 from pathlib import Path
 
 sys.dont_write_bytecode = True
@@ -31,6 +32,7 @@ from swap_party import Header, Landing, Library, Party, Program, Publish, Readin
 from swap_party.calls import Call  # noqa: E402
 
 
+@lru_cache(maxsize=1)
 def answering() -> Party:
     """What answers: the library where the environment names one, and else the program."""
     if os.environ.get("SWAP_PARTY_LIBRARY"):
@@ -69,7 +71,7 @@ class Files:
 
     def read(self, arc: int) -> Reading:
         chain = self.chains[arc].look()
-        return Reading(tuple(map(str, chain.entries)), chain.height)
+        return Reading(tuple(chain.lines), chain.height)
 
     def present(self, arc: int, call: Call, until: int | None) -> None:
         """A publish stands once, as if it carried a nonce."""

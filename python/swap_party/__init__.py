@@ -18,7 +18,10 @@ from .answer import (
     Never,
     Note,
     Now,
+    Seen,
     Sent,
+    Stale,
+    Stopped,
     Unkept,
     Wait,
     agreed_digest,
@@ -26,9 +29,10 @@ from .answer import (
 from .calls import ACCEPTED, Call, Called, Claim, Hashkey, Publish, Refund, Reply, Tick, Transfer, Unlock
 from .cleared import Cleared, Plain
 from .clocks import Clock, Slow
-from .engine import Chains, NotProvedError, Reading, Stale, Step, Wallet
+from .engine import Chains, NotProvedError, Reading, Step, Unreached, Wallet
 from .formats import parse
 from .header import Header
+from .judgement import AgreedDigest, Case, Judgement, Mark
 from .lines import NotOfTheFormatError
 from .many import Many, Reports
 from .notes import Agreement, DisagreedError, InUseError, Notes
@@ -41,6 +45,7 @@ from .wallet import Build, Library, NoAnswerError, Party, Program, RefusedError,
 
 __all__ = [
     "ACCEPTED",
+    "AgreedDigest",
     "Agreement",
     "Answer",
     "Asked",
@@ -48,6 +53,7 @@ __all__ = [
     "Build",
     "Call",
     "Called",
+    "Case",
     "Chains",
     "Claim",
     "Cleared",
@@ -58,12 +64,14 @@ __all__ = [
     "Hashkey",
     "Header",
     "InUseError",
+    "Judgement",
     "Keep",
     "Landing",
     "Ledger",
     "Library",
     "Many",
     "Margin",
+    "Mark",
     "Never",
     "NoAnswerError",
     "NotOfTheFormatError",
@@ -83,10 +91,12 @@ __all__ = [
     "Reports",
     "Row",
     "Seed",
+    "Seen",
     "Sent",
     "Slow",
     "Stale",
     "Step",
+    "Stopped",
     "Summary",
     "Terms",
     "Tick",
@@ -96,6 +106,7 @@ __all__ = [
     "Transfer",
     "Unkept",
     "Unlock",
+    "Unreached",
     "Wait",
     "Wallet",
     "agreed_digest",

@@ -26,6 +26,29 @@ class Bad:
 
 
 @dataclass(frozen=True)
+class Stale:
+    """That arc's ledger is told below the height at which it was seen. Nothing is signed or
+    published because of what it doesn't show, and nothing is answered on it."""
+
+    arc: int
+    height: int
+
+    def __str__(self) -> str:
+        return f"stale {self.arc} {self.height}"
+
+
+@dataclass(frozen=True)
+class Stopped:
+    """The notes have no one hashkey for that lock: two are noted, or its line is torn. Nothing is
+    signed or presented for it."""
+
+    lock: int
+
+    def __str__(self) -> str:
+        return f"unkept {self.lock}"
+
+
+@dataclass(frozen=True)
 class Unkept:
     """An unlock of the party for that lock, with a hashkey that isn't among the notes: somebody
     else has the seed, or what was kept is lost."""
@@ -121,13 +144,24 @@ class Never:
         return f"never {self.arc}"
 
 
-Warning = Union[Bad, Unkept]
+@dataclass(frozen=True)
+class Seen:
+    """A note: that arc's ledger stood at that height."""
+
+    arc: int
+    height: int
+
+    def __str__(self) -> str:
+        return f"seen {self.arc} {self.height}"
+
+
+Warning = Union[Stale, Stopped, Unkept, Bad]
 Told = Union[Warning, Due, Keep, Landing, Wait, Done]
-Note = Union[Keep, Sent, Never]
-WARNINGS = (Bad, Unkept)
+Note = Union[Keep, Sent, Never, Seen]
+WARNINGS = (Stale, Stopped, Unkept, Bad)
 # The order of an answer's lines: warnings, then what is due, or else that nothing is
-PLACES: dict[type[Told], int] = {Bad: 0, Unkept: 1, Keep: 2, Due: 3, Landing: 4, Wait: 5, Done: 5}
-DUE, REST = 2, 5
+PLACES: dict[type[Told], int] = {Stale: 0, Stopped: 1, Unkept: 2, Bad: 3, Keep: 4, Due: 5, Landing: 6, Wait: 7, Done: 7}
+DUE, REST = 4, 7
 
 
 def heights_words(by: int, until: int | None) -> str:
@@ -162,14 +196,24 @@ def replied(words: list[str]) -> Reply:
     return Reply(words[0]) if words in (["SenderFull"], ["ClockFull"]) else Reply.of(words)
 
 
+def warned_of(words: list[str]) -> Stale | Stopped | Unkept:
+    """A warning that isn't of a bad entry."""
+    if words[0] == "stale":
+        at, height = fixed(words, "stale", None, None)
+        return Stale(number(at, BYTE), number(height, MOST_NUMBER))
+    if len(words) == 2:
+        return Stopped(number(words[1], BYTE))
+    arc, entry, lock = fixed(words, "unkept", None, None, None)
+    return Unkept(number(arc, BYTE), number(entry), number(lock, BYTE))
+
+
 def told_of(line: str) -> Told:
     words = line.split(" ")
     kind = words[0]
     if kind in ("call", "keep", "bad"):
         return due_of(words) if kind == "call" else keep_of(words) if kind == "keep" else bad_of(words)
-    if kind == "unkept":
-        arc, entry, lock = fixed(words, "unkept", None, None, None)
-        return Unkept(number(arc, BYTE), number(entry), number(lock, BYTE))
+    if kind in ("unkept", "stale"):
+        return warned_of(words)
     if kind == "landing":
         arc, by, until = fixed(words, "landing", None, "by", None, "until", None)
         return Landing(number(arc, BYTE), number(by), number(until))
@@ -207,7 +251,7 @@ class Answer:
 
     @property
     def warnings(self) -> tuple[Warning, ...]:
-        """What is wrong with the ledgers. It stands beside what is due, and never in
+        """What is wrong with the ledgers or the notes. It stands beside what is due, and never in
         its place."""
         return tuple(it for it in self.told if isinstance(it, WARNINGS))
 
@@ -230,6 +274,9 @@ def note_of(line: str) -> Note:
     words = line.split(" ")
     if words[0] == "keep":
         return keep_of(words)
+    if words[0] == "seen":
+        arc, height = fixed(words, "seen", None, None)
+        return Seen(number(arc, BYTE), number(height, MOST_NUMBER))
     kind: type[Sent | Never] = Never if words[0] == "never" else Sent
     return kind(number(fixed(words, words[0] if kind is Never else "sent", None)[0], BYTE))
 
@@ -290,7 +337,7 @@ class Asked:
         lines, notes, context, ledgers = Lines(text), [], [], []
         seed = lines.read(seed_of) if lines.begins("seed") else None
         agreed = lines.read(agreed_of)
-        while lines.begins("keep", "sent", "never"):
+        while lines.begins("keep", "sent", "never", "seen"):
             notes.append(lines.read(note_of))
         header = lines.next()
         while lines.begins("about"):

@@ -65,6 +65,11 @@ class Stopwatch:
         self._grow(Clock(skew=apart, finality=max(0, waits), pace=max(0, pace)))
         self._asked = dict(tips)
 
+    @property
+    def waiting(self) -> list[tuple[int, str]]:
+        """The calls that were presented, and weren't seen to stand."""
+        return list(self._presented)
+
     def presents(self, arc: int, call: str, tip: int) -> None:
         self._presented.setdefault((arc, call), tip)
 

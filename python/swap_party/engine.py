@@ -2,12 +2,13 @@
 from __future__ import annotations
 
 import os
+import re
 import sys
 from collections.abc import Callable, Iterable, Mapping, Sequence
 from dataclasses import dataclass
-from typing import Protocol, Union
+from typing import NamedTuple, Protocol, Union
 
-from .answer import Answer, Asked, Bad, Done, Due, Keep, Landing, Ledger, Margin, Never, Now, Sent, Wait
+from .answer import Answer, Asked, Bad, Done, Due, Keep, Landing, Ledger, Margin, Never, Now, Seen, Sent, Wait
 from .answer import Warning as Warned
 from .calls import MOST_NUMBER, Call, Publish
 from .clocks import Clock, Slow, Stopwatch
@@ -15,9 +16,11 @@ from .header import Header
 from .notes import Agreement, Notes
 from .seeds import Seed
 from .terms import Terms
-from .wallet import Build, Party
+from .wallet import Build, NoAnswerError, Party
 
 WALKS = "walks away"
+# What ends no line
+NO_LINE = dict.fromkeys(range(32), "?")
 
 
 @dataclass(frozen=True)
@@ -33,16 +36,17 @@ class Chains(Protocol):
     """The three callbacks."""
 
     def read(self, arc: int) -> Reading:
-        """That arc's ledger, as it is final now. Of one that can't be read: what was read before."""
+        """That arc's ledger, as it is final now. Where it can't be read in time this raises: then
+        nothing is signed, published, or presented there, and all else goes on."""
 
     def present(self, arc: int, call: Call, until: int | None) -> None:
         """Hands a call to the network. It may land later, and above the height `until` it is of no
         use. A publish is presented again until it stands there, and has to land once: it carries
-        the same nonce each time."""
+        the same nonce each time. Where this raises, the call is presented again at the next step."""
 
     def sleep(self, until: int | None) -> None:
-        """Returns once a call landed on a ledger of the party, or one of them stands above the
-        height; without a height once a call landed. Sooner is as well."""
+        """Returns once, since they were read, a call landed on a ledger of the party, or one of them
+        rose to above the height; without a height once a call landed. Sooner is as well."""
 
 
 class NotProvedError(RuntimeError):
@@ -50,25 +54,25 @@ class NotProvedError(RuntimeError):
 
 
 @dataclass(frozen=True)
-class Stale:
-    """A warning: that arc's ledger stands below the height at which it was seen. The wallet signs and
-    publishes nothing because of what it doesn't show, and presents nothing there. Where the chain
-    took back more than was agreed on, strike the height by `Notes.unsee`."""
+class Unreached:
+    """A warning: that arc's chain couldn't be read, or took no call. What wasn't read counts as stale:
+    the wallet goes by what it read before, as far as nobody can be hurt by that."""
 
     arc: int
-    height: int
+    why: str
 
     def __str__(self) -> str:
-        return f"stale {self.arc} {self.height}"
+        return f"unreached {self.arc} {self.why}"
 
 
-Warning = Union[Warned, Stale, Slow]
+Warning = Union[Warned, Unreached, Slow]
 
 
 @dataclass(frozen=True)
 class Step:
     """One asking, obeyed: the answer, the calls that were presented, what is wrong, and whether a
-    hashkey was kept, so that it asks again at once."""
+    hashkey was kept, so that it asks again at once. `useless` are publishes that were sent, may land,
+    and are of no use any more: replace each by its nonce, and say so by `Wallet.replaced`."""
 
     answer: Answer
     presented: tuple[Due, ...]
@@ -76,20 +80,49 @@ class Step:
     has_kept: bool
     heights: Mapping[int, int]
     until: int | None
+    useless: tuple[Landing, ...] = ()
 
     @property
     def is_done(self) -> bool:
-        return isinstance(self.answer.rest, Done) and not any(isinstance(it, Stale) for it in self.warnings)
+        return isinstance(self.answer.rest, Done) and not any(isinstance(it, Unreached) for it in self.warnings)
 
     @property
     def rests(self) -> bool:
-        """Whether nothing is due."""
-        return self.answer.rest is not None
+        """Whether nothing is left to do at these heights."""
+        return self.answer.rest is not None or set(self.answer.due) == set(self.useless)
+
+
+# A line of a ledger's rise. A longer number is no entry.
+RISE = re.compile("t ([0-9]{1,20})")
+
+
+class Quiet(NamedTuple):
+    """An answer that nothing is due, which holds until a call lands, or a ledger stands above its
+    height: the calls that were told, by arc, and the number of notes."""
+
+    answer: Answer
+    calls: Mapping[int, Sequence[str]]
+    notes: int
+
+    def holds(self, other: Quiet, heights: Mapping[int, int]) -> bool:
+        """Whether nothing else is told than ticks up to the height."""
+        until = self.answer.rest.until if isinstance(self.answer.rest, Wait) else None
+        return (until is None or max(heights.values()) <= until) and (self.calls, self.notes) == (other.calls, other.notes)
+
+
+def calls_in(lines: Iterable[str]) -> list[str]:
+    return [line for line in lines if not line.startswith("t ")]
 
 
 def risen(lines: Iterable[str]) -> int:
     """The height of a ledger with these lines."""
-    return min(MOST_NUMBER, sum(int(line[2:]) for line in lines if line.startswith("t ") and line[2:].isdigit()))
+    return min(MOST_NUMBER, sum(int(found[1]) for found in map(RISE.fullmatch, lines) if found))
+
+
+def one_line(entry: str) -> str:
+    """An entry as one line of ASCII. Of one that isn't, nothing that counts is changed: no contract
+    takes it."""
+    return entry if entry.isascii() and entry.isprintable() else entry.encode("ascii", "replace").decode().translate(NO_LINE)
 
 
 def on_standard_error(line: str) -> None:
@@ -107,13 +140,21 @@ class Wallet:
     ) -> None:  # fmt: skip
         self.party, self.name, self._seed, self.chains, self.tell = party, name, seed, chains, tell
         self.margins, self.planned = dict(margins or {}), clock or Clock()
+        if not all(0 <= it <= MOST_NUMBER for it in self.margins.values()):
+            raise ValueError(f"a margin is 0 to {MOST_NUMBER} heights")
         self._examine(party.build(), allow_unproved)
-        self.notes = Notes(notes)
         self._told: set[str] = set()
         self._tips: dict[tuple[int, str], int] = {}
+        self._read: dict[int, Reading] = {}
+        self._quiet: Quiet | None = None
         self._began = False
-        if agreement := self.notes.agreement:
-            self._take(agreement)
+        self.notes = Notes(notes)
+        try:
+            if agreement := self.notes.agreement:
+                self._take(agreement)
+        except BaseException:
+            self.notes.close()
+            raise
 
     def _examine(self, build: Build, allow_unproved: bool) -> None:
         if allow_unproved or build is Build.PROVED:
@@ -164,29 +205,51 @@ class Wallet:
     # ---- a step
     def step(self) -> Step:
         """Reads its chains, asks what is due, and obeys."""
-        readings = {arc: self.chains.read(arc) for arc in self.near}
+        readings, unread = self._readings()
         heights = {arc: risen(it.lines) for arc, it in readings.items()}
         tips = {arc: min(MOST_NUMBER, max(heights[arc], it.tip or 0)) for arc, it in readings.items()}
         self._measure(readings, heights, tips)
-        answer = self._ask(readings, tips)
-        stale = tuple(Stale(arc, height) for arc, height in self.notes.seen.items() if heights.get(arc, height) < height)
+        answer = self._answer(readings, heights, tips)
         self._see(answer, heights)
-        may = [it for it in answer.due if not stale or self._may_go(it, stale)]
-        presented = [it for it in may if self._obey(it, tips)]
-        warnings = self._warnings(answer, stale)
+        useless = tuple(it for it in answer.due if isinstance(it, Landing) and tips[it.arc] + self.margins.get(it.arc, 0) > it.until)
+        may = [it for it in answer.due if it not in useless and self._may_go(it, unread)]
+        unreached: list[Unreached] = []
+        presented = [it for it in may if self._obey(it, tips, unreached)]
+        warnings = self._warnings((*unread, *unreached, *answer.warnings), useless)
         has_kept = any(isinstance(it, Keep) for it in may)
-        until = answer.rest.until if isinstance(answer.rest, Wait) and not answer.warnings and not stale else max(heights.values())
-        return Step(answer, tuple(it for it in presented if isinstance(it, Due)), warnings, has_kept, heights, until)
+        until = answer.rest.until if isinstance(answer.rest, Wait) and not unread and not answer.warnings else min(heights.values())
+        return Step(answer, tuple(it for it in presented if isinstance(it, Due)), warnings, has_kept, heights, until, useless)
+
+    def _readings(self) -> tuple[dict[int, Reading], tuple[Unreached, ...]]:
+        """Its chains as they are read and, of those that can't be, as they were read before."""
+        unread = []
+        for arc in self.near:
+            try:
+                self._read[arc] = self.chains.read(arc)
+                self._told.discard(f"unreached {arc}")
+            except Exception as why:
+                unread.append(Unreached(arc, repr(why)))
+        return {arc: self._read.get(arc, Reading(())) for arc in self.near}, tuple(unread)
 
     @staticmethod
-    def _may_go(told: Due | Keep | Landing, stale: Iterable[Stale]) -> bool:
-        """Whether a line is obeyed though a ledger is stale: no hashkey is signed, nothing published,
-        and nothing presented on that ledger."""
-        return isinstance(told, Due) and not isinstance(told.call, Publish) and all(it.arc != told.arc for it in stale)
+    def _may_go(told: Due | Keep | Landing, unread: Iterable[Unreached]) -> bool:
+        """Whether a line is obeyed though a ledger wasn't read: as where one is stale, no hashkey is
+        signed, nothing published, and nothing presented on that ledger."""
+        arcs = {it.arc for it in unread}
+        return not arcs or isinstance(told, Due) and not isinstance(told.call, Publish) and told.arc not in arcs
 
     def run(self) -> None:
-        """Steps, and sleeps in between, until the swap is over for its party."""
-        while not (step := self.step()).is_done:
+        """Steps, and sleeps in between, until the swap is over for its party. What has no answer, as
+        where there is no memory, is asked again."""
+        while True:
+            try:
+                step = self.step()
+            except (MemoryError, NoAnswerError) as why:
+                self.tell(f"{self.name}: {why!r}")
+                self.chains.sleep(min(self.notes.seen.values(), default=0))
+                continue
+            if step.is_done:
+                return
             if not step.has_kept:
                 self.chains.sleep(step.until)
 
@@ -195,24 +258,36 @@ class Wallet:
             self.watch.woke(self.notes.seen, tips)
             self._began = True
         self.watch.asks(heights, tips)
-        for arc, call in list(self._tips):
+        for arc, call in self.watch.waiting:
             landed = next((at for at, line in enumerate(readings[arc].lines) if line.startswith(f"c {self.me} {call} = ")), None)
             if landed is not None:
                 self.watch.lands(arc, call, risen(readings[arc].lines[:landed]))
+
+    def _answer(self, readings: Mapping[int, Reading], heights: Mapping[int, int], tips: Mapping[int, int]) -> Answer:
+        """What is due, which isn't asked where the last answer was that nothing is, and still holds."""
+        quiet = self._quiet
+        told = {arc: calls_in(it.lines) for arc, it in readings.items()}
+        is_stale = any(height < self.notes.seen.get(arc, 0) for arc, height in heights.items())
+        if quiet and not is_stale and quiet.holds(Quiet(quiet.answer, told, len(self.notes.notes)), heights):
+            return quiet.answer
+        answer = self._ask(readings, tips)
+        self._quiet = Quiet(answer, told, len(self.notes.notes)) if answer.rest and not answer.warnings else None
+        return answer
 
     def _ask(self, readings: Mapping[int, Reading], tips: Mapping[int, int]) -> Answer:
         ledgers = tuple(Ledger(arc, tuple(self._worth_telling(it.lines))) for arc, it in readings.items())
         said: list[Now | Margin] = [Now(arc, tip) for arc, tip in tips.items()]
         said += [Margin(arc, self.margins[arc]) for arc in readings if self.margins.get(arc)]
         it = self.agreement
-        asked = Asked(it.digest, tuple(self.notes.notes), it.header, it.context, ledgers, heights=tuple(said))
+        notes = (*self.notes.notes, *(Seen(arc, height) for arc, height in sorted(self.notes.seen.items())))
+        asked = Asked(it.digest, notes, it.header, it.context, ledgers, heights=tuple(said))
         return Answer.parse(self.party.next(self.name, self._seed.bytes, str(asked)))
 
     def _worth_telling(self, lines: Iterable[str]) -> Iterable[str]:
         """Without what others were refused, and without what it was refused twice: the text stays
         short however it is flooded."""
         mine, refused = f"c {self.me} ", set()
-        for line in lines:
+        for line in map(one_line, lines):
             if line.startswith("c ") and not line.endswith(" = accepted"):
                 if not line.startswith(mine) or line in refused:
                     continue
@@ -222,23 +297,27 @@ class Wallet:
     def _see(self, answer: Answer, heights: Mapping[int, int]) -> None:
         """Notes how high it saw what was read to the end."""
         bad = {it.arc for it in answer.warnings if isinstance(it, Bad)}
-        for arc, height in heights.items():
-            if arc not in bad:
-                self.notes.see(arc, height)
+        self.notes.see({arc: height for arc, height in heights.items() if arc not in bad})
 
-    def _warnings(self, answer: Answer, stale: Iterable[Stale]) -> tuple[Warning, ...]:
+    def _warnings(self, found: Iterable[Warning], useless: Iterable[Landing]) -> tuple[Warning, ...]:
         """What is wrong, each told once."""
         slow = self.watch.warning()
-        warnings: tuple[Warning, ...] = (*stale, *answer.warnings, *([slow] if slow else []))
+        warnings: tuple[Warning, ...] = (*found, *([slow] if slow else []))
         for it in warnings:
-            if (key := str(it) if not isinstance(it, Slow) else "slow") not in self._told:
-                self._told.add(key)
-                self.tell(f"{self.name}: {it}")
+            self._tell_once("slow" if isinstance(it, Slow) else f"unreached {it.arc}" if isinstance(it, Unreached) else str(it), str(it))
+        for landing in useless:
+            self._tell_once(f"useless {landing.arc}", f"{landing} is of no use any more: replace it by its nonce")
         return warnings
 
+    def _tell_once(self, key: str, line: str) -> None:
+        if key not in self._told:
+            self._told.add(key)
+            self.tell(f"{self.name}: {line}")
+
     # ---- what it does
-    def _obey(self, told: Due | Keep | Landing, tips: Mapping[int, int]) -> bool:
-        """Obeys a line, and says whether a call went out."""
+    def _obey(self, told: Due | Keep | Landing, tips: Mapping[int, int], unreached: list[Unreached]) -> bool:
+        """Obeys a line, and says whether a call went out. A chain that takes none is named, and holds
+        up no other."""
         if isinstance(told, Keep):
             self.notes.add(told)
             return False
@@ -248,17 +327,21 @@ class Wallet:
         if is_publish:
             self.notes.add(Sent(told.arc))
         call = self.deal.publish(told.arc) if isinstance(told, Landing) else told.call
-        return self._present(told.arc, call, told.until, tips[told.arc])
+        try:
+            return self._present(told.arc, call, told.until, tips[told.arc])
+        except Exception as why:
+            unreached.append(Unreached(told.arc, repr(why)))
+            return False
 
     def _present(self, arc: int, call: Call, until: int | None, tip: int) -> bool:
-        """Presents a call, and again once it should have landed."""
+        """Presents a call, and again once it should have landed, or its chain stands lower."""
         key = arc, str(call)
         last = self._tips.get(key)
-        if last is not None and tip <= last + self.margins.get(arc, 0):
+        if last is not None and last <= tip <= last + self.margins.get(arc, 0):
             return False
+        self.chains.present(arc, call, until)
         self._tips[key] = tip
         self.watch.presents(*key, tip)
-        self.chains.present(arc, call, until)
         return True
 
     def close(self) -> None:

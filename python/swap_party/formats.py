@@ -5,6 +5,7 @@ from typing import Union
 
 from .answer import Answer, Asked
 from .cleared import Cleared
+from .judgement import Judgement
 from .lines import NotOfTheFormatError, decoded
 from .many import Many, Reports
 from .report import Report
@@ -12,7 +13,7 @@ from .summary import Summary, Times
 from .terms import Row, Terms
 from .transcript import Transcript
 
-Text = Union[Report, Transcript, Cleared, Many, Reports, Times, Summary, Row, Terms, Asked, Answer]
+Text = Union[Report, Transcript, Cleared, Many, Reports, Times, Summary, Row, Terms, Asked, Answer, Judgement]
 FIRST_LINES: dict[str, type[Text]] = {
     "swap report 1": Report,
     "swap transcript 1": Transcript,
@@ -28,9 +29,10 @@ FIRST_LINES: dict[str, type[Text]] = {
 FIRST_WORDS: dict[str, type[Text]] = {
     "row": Row,
     "terms": Terms,
+    "deal": Judgement,
     "seed": Asked,
     "agreed": Asked,
-    **dict.fromkeys(("bad", "unkept", "call", "keep", "landing", "wait", "done"), Answer),
+    **dict.fromkeys(("stale", "bad", "unkept", "call", "keep", "landing", "wait", "done"), Answer),
 }
 
 

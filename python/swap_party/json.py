@@ -3,6 +3,7 @@
 usage: python -m swap_party.json [FILE]    (standard input if left out)
 
 The fields are those of the package's classes. `kind` is the class, where one of several may stand.
+A judgement is written as `party judge --json` writes it.
 """
 from __future__ import annotations
 
@@ -12,6 +13,7 @@ from dataclasses import fields, is_dataclass
 from typing import Any
 
 from .formats import parse
+from .judgement import Judgement
 from .lines import NotOfTheFormatError
 
 
@@ -38,8 +40,7 @@ def main(words: list[str]) -> int:
     except (NotOfTheFormatError, OSError) as why:
         print(f"{words[0] if words else 'standard input'}: {why}", file=sys.stderr)
         return 3
-    json.dump(plain(told), sys.stdout, indent=1)
-    print()
+    sys.stdout.write(told.json() if isinstance(told, Judgement) else json.dumps(plain(told), indent=1) + "\n")
     return 0
 
 

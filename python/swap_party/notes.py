@@ -6,11 +6,11 @@ import fcntl
 import os
 import sqlite3
 import time
-from collections.abc import Iterable
+from collections.abc import Iterable, Mapping
 from types import TracebackType
 from typing import NamedTuple
 
-from .answer import Keep, Never, Note, Sent, agreed_digest, kept_for, note_of
+from .answer import Keep, Never, Note, Seen, Sent, agreed_digest, kept_for, note_of
 
 TABLES = (
     "create table if not exists notes (at integer primary key, line text not null, lock integer unique)",
@@ -57,14 +57,16 @@ class Notes:
     """
 
     def __init__(self, path: str | os.PathLike[str]) -> None:
-        self._lock = self._locked(os.fspath(path))
+        self._lock, self._process = self._locked(os.fspath(path)), os.getpid()
         try:
             self._database = self._opened(os.fspath(path))
             rows = self._database.execute("select line from notes order by at").fetchall()
+            self.notes: list[Note] = [note_of(line) for (line,) in rows]
+            self._seen: dict[int, int] = dict(self._database.execute("select arc, height from heights").fetchall())
+            self._choices = {name for (name,) in self._database.execute("select name from choices").fetchall()}
         except BaseException:
             os.close(self._lock)
             raise
-        self.notes: list[Note] = [note_of(line) for (line,) in rows]
 
     @staticmethod
     def _locked(path: str) -> int:
@@ -86,13 +88,19 @@ class Notes:
         os.close(os.open(path, os.O_RDWR | os.O_CREAT | os.O_CLOEXEC, OWN_ALONE))
         os.chmod(path, OWN_ALONE)
         database = sqlite3.connect(path, isolation_level=None)
-        for pragma in PRAGMAS:
-            database.execute(f"pragma {pragma}").fetchall()
-        # (with the first transaction its lock is taken, and kept: nobody else reads or writes it)
-        database.execute("begin exclusive")
-        for table in TABLES:
-            database.execute(table)
-        database.execute("commit")
+        try:
+            for pragma in PRAGMAS:
+                database.execute(f"pragma {pragma}").fetchall()
+            # (with the first transaction its lock is taken, and kept: nobody else reads or writes it)
+            database.execute("begin exclusive")
+            for table in TABLES:
+                database.execute(table)
+            database.execute("commit")
+        except BaseException as why:
+            database.close()
+            if isinstance(why, sqlite3.OperationalError) and "locked" in str(why):
+                raise InUseError(f"another process has the notes {path} open") from None
+            raise
         folder = os.open(os.path.dirname(os.path.abspath(path)), os.O_RDONLY)
         try:
             os.fsync(folder)
@@ -104,14 +112,20 @@ class Notes:
     @property
     def agreement(self) -> Agreement | None:
         row = self._database.execute("select party, header, context from agreement").fetchone()
-        return Agreement(row[0], row[1], tuple(row[2].splitlines())) if row else None
+        return Agreement(row[0], row[1], tuple(row[2].split("\n")[:-1])) if row else None
+
+    def _write(self, statement: str, *words: object) -> None:
+        """Writes, and syncs. A process that was forked off has the lock too, and may not."""
+        if os.getpid() != self._process:
+            raise InUseError("the process that opened these notes has them")
+        self._database.execute(statement, words)
 
     def agree(self, agreement: Agreement) -> None:
         """Writes down what was agreed to, once."""
         before = self.agreement
         if before is None:
             context = "".join(f"{line}\n" for line in agreement.context)
-            self._database.execute("insert into agreement values (1, ?, ?, ?)", (agreement.party, agreement.header, context))
+            self._write("insert into agreement values (1, ?, ?, ?)", agreement.party, agreement.header, context)
         elif before != agreement:
             raise DisagreedError(f"{before.party} agreed to {before.digest}, which isn't {agreement.digest}")
 
@@ -120,13 +134,15 @@ class Notes:
         """Writes a note down, and syncs it. One that says nothing new is left out: a hashkey that
         is kept, whatever its heights, and an arc on which a publish was sent, unless it was replaced
         since."""
-        if isinstance(note, Keep):
+        if isinstance(note, Seen):
+            self.see({note.arc: note.height})
+        elif isinstance(note, Keep):
             self._keep(note)
         elif isinstance(note, Never) and self.has_sent(note.arc) or isinstance(note, Sent) and not self.has_sent(note.arc):
             self._insert(note)
 
     def _insert(self, note: Note, lock: int | None = None) -> None:
-        self._database.execute("insert into notes (line, lock) values (?, ?)", (str(note), lock))
+        self._write("insert into notes (line, lock) values (?, ?)", str(note), lock)
         self.notes.append(note)
 
     def _keep(self, note: Keep) -> None:
@@ -137,19 +153,23 @@ class Notes:
             raise ValueError(f"another hashkey is kept for lock {kept.lock}")
 
     # ---- heights
-    def see(self, arc: int, height: int) -> None:
-        """Notes how high a ledger was seen, which only grows."""
-        if height > self.seen.get(arc, 0):
-            self._database.execute("insert or replace into heights values (?, ?)", (arc, height))
+    def see(self, heights: Mapping[int, int]) -> None:
+        """Notes how high ledgers were seen, which only grows, all at once."""
+        more = {arc: height for arc, height in heights.items() if height > self._seen.get(arc, 0)}
+        if more:
+            places = ", ".join(["(?, ?)"] * len(more))
+            self._write(f"insert or replace into heights values {places}", *(it for pair in more.items() for it in pair))
+            self._seen.update(more)
 
     def unsee(self, arcs: Iterable[int]) -> None:
         """Strikes how high these ledgers were seen: a chain took back more than was agreed on."""
         for arc in arcs:
-            self._database.execute("delete from heights where arc = ?", (arc,))
+            self._write("delete from heights where arc = ?", arc)
+            self._seen.pop(arc, None)
 
     @property
     def seen(self) -> dict[int, int]:
-        return dict(self._database.execute("select arc, height from heights").fetchall())
+        return dict(self._seen)
 
     def has_sent(self, arc: int) -> bool:
         """Whether a publish on that arc was sent, and not replaced since."""
@@ -161,10 +181,12 @@ class Notes:
 
     # ---- choices of the owner
     def choose(self, name: str) -> None:
-        self._database.execute("insert or ignore into choices values (?)", (name,))
+        if name not in self._choices:
+            self._write("insert or ignore into choices values (?)", name)
+            self._choices.add(name)
 
     def has_chosen(self, name: str) -> bool:
-        return self._database.execute("select 1 from choices where name = ?", (name,)).fetchone() is not None
+        return name in self._choices
 
     def close(self) -> None:
         self._database.close()

@@ -4,6 +4,7 @@ behind one interface."""
 from __future__ import annotations
 
 import ctypes
+import functools
 import os
 import re
 import shutil
@@ -18,7 +19,7 @@ from .header import Header
 from .lines import WordError
 
 DONE, SHORT, WARNED, REFUSED, NO_MEMORY, TOO_LONG, WRONG_WORDS = 0, 1, 2, 3, 6, 7, 8
-TEXT_LIMIT, SHORT_LIMIT, NAME_LIMIT, SEED_SIZE, ID_SIZE = 566_231_040, 1_048_576, 16, 32, 32
+TEXT_LIMIT, CASE_LIMIT, SHORT_LIMIT, NAME_LIMIT, SEED_SIZE, ID_SIZE = 566_231_040, 150_994_944, 1_048_576, 16, 32, 32
 BEFORE = b"swap: refused: "
 # The longest buffer that a thread keeps between calls
 MOST_KEPT = 1 << 24
@@ -75,6 +76,9 @@ class Party(Protocol):
         """The lines that answer `text`, which is the wallet's notes and a transcript of each ledger
         as far as it is known."""
 
+    def judge(self, text: bytes) -> str:
+        """What is found of what wallets agreed on and of all ledgers (`swap_party.judgement`)."""
+
     def check(self, header: str) -> bytes:
         """The id of the deal of a header line, where it is accepted."""
 
@@ -112,17 +116,41 @@ class Said(ctypes.Structure):
     _fields_ = [("status", ctypes.c_uint32), ("length", ctypes.c_size_t)]
 
 
+# What a processor of x86-64-v3 has, as Linux names it
+V3 = {"avx", "avx2", "bmi1", "bmi2", "f16c", "fma", "abm", "movbe", "xsave"}
+
+
+@functools.lru_cache(maxsize=None)
+def has_v3() -> bool:
+    """Whether this machine's processor has AVX2 and what came with it."""
+    try:
+        told = Path("/proc/cpuinfo").read_text(encoding="utf-8", errors="replace")
+    except OSError:
+        return False
+    return any(V3 <= set(line.split()) for line in told.splitlines() if line.startswith("flags"))
+
+
+def for_this_machine(path: str) -> str:
+    """The shared object of that path, or the one for processors with AVX2 that tools/install laid
+    below it; under SWAP_CPU=plain that path. (Of a name without a folder the system's loader makes
+    the same choice.)"""
+    folder, name = os.path.split(path)
+    fast = os.path.join(folder, "glibc-hwcaps", "x86-64-v3", name)
+    return fast if folder and os.environ.get("SWAP_CPU") != "plain" and os.path.isfile(fast) and has_v3() else path
+
+
 class Library:
     """The shared object libswap_party.so.1, by the path given, by the environment's
     SWAP_PARTY_LIBRARY, or where the system finds it."""
 
     def __init__(self, path: str | os.PathLike[str] | None = None) -> None:
-        it = ctypes.CDLL(os.fspath(path or os.environ.get("SWAP_PARTY_LIBRARY") or "libswap_party.so.1"))
+        it = ctypes.CDLL(for_this_machine(os.fspath(path or os.environ.get("SWAP_PARTY_LIBRARY") or "libswap_party.so.1")))
         text, out = [ctypes.c_char_p, ctypes.c_size_t], [ctypes.c_void_p, ctypes.c_size_t]
         self._keys = self._call(it.swap_party_keys, Said, [*text, *text, ctypes.c_char_p, *out])
         self._deal = self._call(it.swap_party_deal, Said, [*text, *out])
         self._terms = self._call(it.swap_party_terms, Said, [*text, *text, *out])
         self._next = self._call(it.swap_party_next, Said, [*text, *text, ctypes.c_char_p, *out])
+        self._judge = self._call(it.swap_party_judge, Said, [*text, *out])
         self._check = self._call(it.swap_party_check, Said, [*text, *out])
         self._answer = self._call(it.swap_party_answer, Said, [*text, *text, *out])
         self.version = self._call(it.swap_party_version, ctypes.c_char_p, [])().decode()
@@ -173,6 +201,9 @@ class Library:
     def next_said(self, name: bytes, seed: bytes, text: bytes) -> tuple[int, bytes]:
         return self.said(self._next, text, len(text), name, len(name), whole_seed(seed))
 
+    def judge_said(self, text: bytes) -> tuple[int, bytes]:
+        return self.said(self._judge, text, len(text))
+
     def check_said(self, header: bytes) -> tuple[int, bytes]:
         return self.said(self._check, header, len(header))
 
@@ -191,6 +222,9 @@ class Library:
 
     def next(self, name: str, seed: bytes, text: str) -> str:
         return answered(*self.next_said(name.encode(), seed, text.encode())).decode()
+
+    def judge(self, text: bytes) -> str:
+        return answered(*self.judge_said(text)).decode()
 
     def check(self, header: str) -> bytes:
         return answered(*self.check_said(header.encode()))
@@ -239,6 +273,10 @@ class Program:
 
     def next(self, name: str, seed: bytes, text: str) -> str:
         return self._run_seeded(["next", name], seed, text)
+
+    def judge(self, text: bytes) -> str:
+        status, said = self._run([self.party, "judge"], text)
+        return answered(WARNED if status == 1 else status, said).decode()
 
     def check(self, header: str) -> bytes:
         """Has a transcript without entries audited, which says whether the deal is accepted. The id

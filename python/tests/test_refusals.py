@@ -20,13 +20,13 @@ MANY = (EXAMPLES / "shared_chains.many").read_text()
 REPORTS = (EXAMPLES / "shared_chains.reports").read_text()
 KEY = f"0 {'a' * 64} 0,1 {'b' * 4288},{'c' * 4288}"
 TIMED_KEY = KEY.replace("0 ", "0 by 30 until 40 ", 1)
-WARNED = "bad 0 3\nbad 1 0 NotExpired 61 accepted\nbad 2 5 accepted SenderFull\nunkept 1 4 0\n"
+WARNED = "stale 2 9\nunkept 1\nunkept 1 4 0\nbad 0 3\nbad 1 0 NotExpired 61 accepted\nbad 2 5 accepted SenderFull\n"
 ANSWER = (
     f"{WARNED}keep {TIMED_KEY}\ncall 1 1 by 10 until 30 publish 10 10 2 0 5 {'d' * 64}\n"
     f"call 0 1 by 30 until 40 unlock {KEY}\ncall 2 1 by 70 refund\nlanding 3 by 10 until 30\n"
 )
 TOLD = "about 0 some chain\nledger 1 2\nt 3\nno entry\nnow 1 9\nmargin 1 2\nend\n"
-ASKED = f"seed {'e' * 64}\nagreed {'f' * 64}\nsent 0\nkeep {TIMED_KEY}\nnever 0\n{TRANSCRIPT.splitlines()[1]}\n{TOLD}"
+ASKED = f"seed {'e' * 64}\nagreed {'f' * 64}\nsent 0\nkeep {TIMED_KEY}\nseen 1 3\nnever 0\n{TRANSCRIPT.splitlines()[1]}\n{TOLD}"
 ROW = f"row alice {'a' * 64} {'b' * 64},{'c' * 64}\n"
 TERMS = f"terms alice 0 of 3\ndeal {'a' * 64}\nagree {'b' * 64}\nmode hashkeys start 10 delta 10 bound 2 horizon 70\n"
 TERMS += "pays 0 bob 100 publish by 10 back 61\nabout 0 some chain\ngets 2 carol 1 open until 60 claim by 70\nleads 0 show by 40\nawake until 70\n"
@@ -88,8 +88,9 @@ ROWS = [
     (ANSWER, "landing 3", "landing", 0),
     (ANSWER, "landing 3 by 10 until 30", "landing 3", 0),
     (ANSWER, "by 10 until 30 publish", "by 10 publish", 0),
-    (ANSWER, "unkept 1 4 0", "stale 1 4", 0),
-    (ASKED, "never 0", "never", 0),
+    (ANSWER, "stale 2 9", "stale 2", 0),
+    (ANSWER, "stale 2 9", "bad 2 9", 1),
+    (ASKED, "seen 1 3", "seen 1", 0),
     (ASKED, "now 1 9", "now 1", 0),
     (ASKED, "margin 1 2", "margins 1 2", 0),
     (ANSWER, "unkept 1 4 0", "unkept 1 4", 0),

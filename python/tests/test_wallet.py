@@ -35,10 +35,12 @@ from swap_party import (
     RefusedError,
     Row,
     Seed,
+    Seen,
     Sent,
     Terms,
     Wait,
     agreed_digest,
+    wallet,
 )
 
 HEADER, SEEDS = Header.of_job((TOP / "examples/three_way.job").read_text().splitlines()[0])
@@ -100,7 +102,7 @@ def test_agrees(party: Party) -> None:
 
 @pytest.mark.parametrize("party", answering(), ids=lambda it: type(it).__name__)
 def test_refuses(party: Party) -> None:
-    rows = [("nobody", "", "Unknown 3 nobody"), ("alice", "keep\n", "BadLine 3"), ("bob", "sent 300\nsent 1\n", "BadLine 3")]
+    rows = [("nobody", "", "Unknown 3 nobody"), ("alice", "keep\nsent 0\n", "BadLine 3"), ("bob", "sent 300\nsent 1\n", "BadLine 3")]
     for name, notes, reason in rows:
         with pytest.raises(RefusedError) as refused:
             party.next(name, SEEDS["alice"], asked().replace("\n", f"\n{notes}", 1))
@@ -165,16 +167,16 @@ def test_an_agreement_is_made_once(tmp_path: Path) -> None:
 def test_notes_of_a_ledger(tmp_path: Path) -> None:
     """How high it was seen only grows, and what was sent may be replaced and sent again."""
     with Notes(tmp_path / "notes") as notes:
-        added: list[Note] = [Sent(0), Never(0), Never(0), Sent(0), Sent(0)]
+        added: list[Note] = [Sent(0), Never(0), Seen(0, 1), Never(0), Sent(0), Sent(0)]
         for note in added:
             notes.add(note)
         for height in (3, 2, 5, 4):
-            notes.see(0, height)
-        assert notes.seen == {0: 5}
+            notes.see({0: height, 1: 1})
+        assert notes.seen == {0: 5, 1: 1}
         assert notes.notes == [Sent(0), Never(0), Sent(0)]
         assert notes.has_sent(0)
         notes.unsee([0])
-        assert notes.seen == {}
+        assert notes.seen == {1: 1}
 
 
 def test_nothing_secret_is_shown(tmp_path: Path) -> None:
@@ -215,3 +217,19 @@ def test_json() -> None:
     refused = subprocess.run(words, input=b"swap report 1\nx\n", capture_output=True, check=False, env=environment)
     assert (refused.returncode, refused.stdout) == (3, b"")
     assert refused.stderr.startswith(b"standard input: line 2: ")
+
+
+def test_the_library_is_that_of_the_machine(tmp_path: Path, monkeypatch: pytest.MonkeyPatch) -> None:
+    plain, fast = tmp_path / "lib.so.1", tmp_path / "glibc-hwcaps" / "x86-64-v3" / "lib.so.1"
+    monkeypatch.delenv("SWAP_CPU", raising=False)
+    monkeypatch.setattr(wallet, "has_v3", lambda: True)
+    assert wallet.for_this_machine(str(plain)) == str(plain)
+    fast.parent.mkdir(parents=True)
+    fast.touch()
+    assert wallet.for_this_machine(str(plain)) == str(fast)
+    assert wallet.for_this_machine("lib.so.1") == "lib.so.1"
+    monkeypatch.setenv("SWAP_CPU", "plain")
+    assert wallet.for_this_machine(str(plain)) == str(plain)
+    monkeypatch.delenv("SWAP_CPU")
+    monkeypatch.setattr(wallet, "has_v3", lambda: False)
+    assert wallet.for_this_machine(str(plain)) == str(plain)

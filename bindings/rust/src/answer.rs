@@ -6,9 +6,13 @@ use std::fmt;
 #[derive(Debug, Clone, PartialEq, Eq)]
 pub struct NotAnAnswer(pub String);
 
-/// What is wrong with a ledger. It stands beside what is due.
+/// What is wrong with a ledger or the notes. It stands beside what is due.
 #[derive(Debug, Clone, PartialEq, Eq)]
 pub enum Warning {
+    /// A ledger is told below the height at which it was seen.
+    Stale { arc: u8, height: u64 },
+    /// The notes have no one hashkey for that lock.
+    Stopped { lock: u8 },
     /// An unlock of the party by a hashkey that isn't among the notes.
     Unkept { arc: u8, entry: u64, lock: u8 },
     /// That entry of a ledger can't be read, or isn't what its contract replies.
@@ -101,6 +105,8 @@ impl Answer {
     fn take(&mut self, line: &str) -> Option<()> {
         let words: Vec<&str> = line.split(' ').collect();
         match words[..] {
+            ["stale", arc, height] => self.warnings.push(Warning::Stale { arc: number(arc)?, height: number(height)? }),
+            ["unkept", lock] => self.warnings.push(Warning::Stopped { lock: number(lock)? }),
             ["unkept", arc, entry, lock] => self.warnings.push(Warning::Unkept { arc: number(arc)?, entry: number(entry)?, lock: number(lock)? }),
             ["bad", arc, entry, ref more @ ..] => {
                 self.warnings.push(Warning::Bad { arc: number(arc)?, entry: number(entry)?, replies: more.join(" ") })
@@ -143,10 +149,10 @@ mod tests {
 
     #[test]
     fn warnings_stand_beside_calls() {
-        let text = "bad 1 0 NotExpired 61 accepted\nunkept 1 4 0\nkeep 0 by 30 until 40 aa 0 bb\n\
+        let text = "stale 2 9\nunkept 1\nunkept 1 4 0\nbad 1 0 NotExpired 61 accepted\nkeep 0 by 30 until 40 aa 0 bb\n\
                     call 1 1 by 10 until 30 publish 10\ncall 2 1 by 70 refund\nlanding 3 by 10 until 30\n";
         let answer = Answer::parse(text).expect("an answer");
-        assert_eq!((answer.warnings.len(), answer.lines.len(), answer.rest), (2, 4, None));
+        assert_eq!((answer.warnings.len(), answer.lines.len(), answer.rest), (4, 4, None));
         assert!(!format!("{answer:?}").contains("aa"));
     }
 

@@ -2,6 +2,6 @@ module settle
 
 go 1.19
 
-require swapparty v1.1.0
+require swapparty v0.0.0
 
 replace swapparty => ../../../bindings/go
