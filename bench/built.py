@@ -14,7 +14,7 @@ sys.dont_write_bytecode = True
 from measure import TOP
 
 # What builds a program, beside its sources
-BUILDERS = [TOP / ".ci" / name for name in ("unproved", "current.py", "bodies.py", "reached")]
+BUILDERS = [TOP / ".ci" / name for name in ("unproved", "current.py", "kept.py", "bodies.py", "reached")]
 
 
 def commit_of(word: str) -> Optional[str]:

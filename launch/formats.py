@@ -10,7 +10,7 @@ FORMATS = Path(__file__).resolve().parent.parent / "docs" / "FORMATS.md"
 JOB = "Why a job is refused"
 HEADINGS = {
     "swap audit": "A transcript", "swap clear": "Wishes", "swap many": "Many swaps", "party keys": "A row", "party deal": "A deal of rows",
-    "party terms": "Terms", "party next": "A wallet's lines",
+    "party terms": "Terms", "party next": "A wallet's lines", "party judge": "A judgement",
 }  # fmt: skip
 
 

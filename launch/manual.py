@@ -135,7 +135,8 @@ def help_of_command(program: str, found: Part) -> list[str]:
     """What a command does, its input, an example, its statuses."""
     more = [it for it in parts_of(page_of(program)) if it.name.endswith(f" OF {found.name.upper()}")]
     told = [line for it in more for line in ["", f"{it.name.capitalize()}:", *text_of(it.lines)]]
-    return [f"usage: {usage_of(program, found.name)}", "", *text_of(found.lines), *told, *statuses(program)]
+    said = "\n".join([*text_of(found.lines), *told]).rstrip("\n").split("\n")
+    return [f"usage: {usage_of(program, found.name)}", "", *said, *statuses(program)]
 
 
 def help_of_program(program: str) -> list[str]:
