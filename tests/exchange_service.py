@@ -10,11 +10,12 @@ import signal
 import socket
 import subprocess
 import sys
+import threading
 import time
 import urllib.error
 import urllib.request
 from collections.abc import Callable
-from contextlib import redirect_stdout
+from contextlib import redirect_stderr, redirect_stdout
 from io import StringIO
 from pathlib import Path
 
@@ -119,7 +120,8 @@ class World:
 
     def live(self) -> None:
         for name in self.users:
-            self.wallets[name] = Process(self.folder, f"{name}-lives", *self.wallet(name, "live", "--chains", self.chains_url, "--yes", "--until-settled", 1))
+            words = self.wallet(name, "live", "--chains", self.chains_url, "--yes", "--until-settled", 1, "--allow-unproved")
+            self.wallets[name] = Process(self.folder, f"{name}-lives", *words)
 
     def processes(self) -> list[Process]:
         return [self.service, self.chains, *self.wallets.values()]
@@ -161,8 +163,7 @@ def settles_a_day(folder: Path, programs: list[str], kills: int) -> str:
         world.live()
         killed = world.settle(kills, random.Random(kills))
         ends(world)
-        world.service.kill(signal.SIGTERM)
-        must(world.service.process.returncode == 0, f"SIGTERM ends the service with {world.service.process.returncode}: {world.told()}")
+        ends_beside_a_request(world)
         judged = [sys.executable, str(EXCHANGE / "run"), "judge", "--state", str(folder / "state"), "--day", "1"]
         done = subprocess.run(judged, capture_output=True, text=True, env=ENVIRONMENT, check=False)
         must((done.returncode, done.stdout) == (0, "swap 0 judged again: findings 0\n"), f"the day is judged as {done}")
@@ -181,6 +182,18 @@ def ends(world: World) -> None:
     must(events == (200, 'data: {"day": "1", "stage": "over", "offered": 0, "settling": 0}\n\n'), f"the events are {events}")
     states = [it["state"] for it in json.loads(world.sent("alice", "state"))["wishes"]]
     must(states == ["paid", "withdrawn", "withdrawn"], f"alice's wishes ended as {states}")
+
+
+def ends_beside_a_request(world: World) -> None:
+    """SIGTERM ends the service, though somebody never ends a request."""
+    with socket.create_connection(("127.0.0.1", world.ports[0])) as held:
+        token = world.users["alice"].token
+        held.sendall(f"POST /v1/wishes HTTP/1.1\r\nHost: x\r\nAuthorization: Bearer {token}\r\nContent-Length: 9\r\n\r\n".encode())
+        time.sleep(0.5)
+        world.service.process.send_signal(signal.SIGTERM)
+        status = world.service.process.wait(PATIENCE)
+    told = world.service.log.read_text().splitlines()[-1:]
+    must((status, told) == (0, ["exchange: stopped: what was answered is kept"]), f"SIGTERM ends the service with {status}: {world.told()}")
 
 
 def refuses(world: World) -> None:
@@ -218,15 +231,16 @@ OFFER = {
     "arcs": [{"amount": 5, "from": "alice", "to": "bob"}, {"amount": 7, "from": "bob", "to": "alice"}],
     "bound": 1, "delta": 10, "leaders": [{"party": "alice"}], "mode": "hashkeys", "parties": [{"name": "alice"}, {"name": "bob"}], "start": 10, "swap": 2,
 }
+CONTEXT = [{"asset": "coin", "from": "alice", "to": "bob"}, {"asset": "gold", "from": "bob", "to": "alice"}]
 Told = dict[str, str]
 
 
 def told_by(swap: int, offer: dict[str, object]) -> Told:
     """What an honest exchange tells alice's wallet of a swap."""
-    from swap_exchange.client import about
+    from swap_exchange.context import about
     from swap_party.header import compact
 
-    context = about(0, "coin", "alice", "bob") + "\n" + about(1, "gold", "bob", "alice") + "\n"
+    context = "".join(f"{line}\n" for arc, it in enumerate(CONTEXT) for line in about(arc, it))
     path = f"/v1/swaps/1/{swap}/"
     return {"/v1/swaps": json.dumps({"swaps": [{"day": "1", "swap": swap, "name": "alice", "settles": False}]}),
             path + "offer": compact(offer) + "\n", path + "context": context, path + "rows": '{"whole":false,"texts":{}}'}
@@ -264,32 +278,55 @@ def with_rows_of(told: Told, name: str) -> None:
     told["/v1/swaps/1/0/rows"] = json.dumps(rows)
 
 
-def isnt_believed(folder: Path, party_path: str) -> str:
-    """Each lie of an exchange, and the moment at which the wallet finds it."""
-    from swap_exchange.client import Client, LieError
-    from swap_party import Program
-
-    party = Program(party_path)
+def lies_of(party: object) -> list[tuple[str, int, Callable[[Told], object]]]:
+    """What a wallet finds of an exchange, from which of its turns on the exchange tells it, and the
+    lie."""
     offer, context, rows, deal = (f"/v1/swaps/1/0/{it}" for it in ("offer", "context", "rows", "deal"))
-    lies: list[tuple[str, int, Callable[[Told], object]]] = [
+    agreed = {"whole": True, "settles": True, "texts": {"alice": "0" * 64, "bob": "1" * 64}}
+    return [
         ("no free wish of alice pays bob 6 coin", 1, lambda told: changed(told, offer, '"amount":5', '"amount":6')),
-        ("no free wish of alice pays eve 5 coin", 1, lambda told: changed(told, context, '"bob"}', '"eve"}')),
+        ("no free wish of alice pays eve 5 coin", 1, lambda told: changed(told, context, '"to":"bob"', '"to":"eve"')),
         ("no free wish of alice pays bob 5 gold", 1, lambda told: changed(told, context, '"coin"', '"gold"')),
-        ("arc 0 has another context", 1, lambda told: changed(told, context, "about 0 {", 'about 0 {"a":1,')),
+        ("an arc has another context", 1, lambda told: changed(told, context, "about 0 {", 'about 0 {"a":"1",')),
+        ("an arc has another context", 1, lambda told: changed(told, context, '"bob"', '"\\u001b[2Jbob"')),
+        ("an arc has another context", 1, lambda told: changed(told, context, "about 1 {", "about 0 {")),
+        ("an arc has another context", 1, lambda told: changed(told, context, "about 1 {", "about 9 {")),
         ("the exchange calls alice bob", 1, lambda told: changed(told, "/v1/swaps", '"alice"', '"bob"')),
-        ("arc 1 would pay alice, and its context says carol", 1, lambda told: changed(told, context, '"to": "alice"', '"to": "carol"')),
+        ("the exchange tells a swap of no form", 1, lambda told: changed(told, "/v1/swaps", '"1"', '"../../x"')),
+        ("the exchange tells no 'swap'", 1, lambda told: changed(told, "/v1/swaps", '"swap": 0', '"swap": "0"')),
+        ("the exchange tells no 'swaps'", 1, lambda told: told.update({"/v1/swaps": "{}"})),
+        ("the exchange answers what is no JSON", 1, lambda told: told.update({"/v1/swaps": "[" * 100_000})),
+        ("the offer is no plain offer", 1, lambda told: changed(told, offer, '"arcs"', '"ways"')),
+        ("arc 1 pays alice, and its context says carol", 1, lambda told: changed(told, context, '"to":"alice"', '"to":"carol"')),
+        ("arc 1 is paid by bob, and its context says alice", 1, lambda told: changed(told, context, '"from":"bob"', '"from":"alice"')),
         ("the exchange tells another row than the one that was sent", 3, lambda told: with_other_row(told, party)),
         ("the rows are those of others", 3, lambda told: with_rows_of(told, "carol")),
         ("a row is another one's", 3, lambda told: changed(told, rows, "row bob", "row eve")),
+        ("a row isn't of the form", 3, lambda told: changed(told, rows, "row bob", "bow rob")),
         ("the exchange tells another deal than that of the rows", 3, lambda told: changed(told, deal, '"amount":5', '"amount":6')),
         ("no free wish of alice pays bob 5 coin", 4, lambda told: told.update(told_by(1, OFFER))),
-        ("others agree to another deal", 6, lambda told: told.update({"/v1/swaps/1/0/agreed": json.dumps(
-            {"whole": True, "settles": True, "texts": {"alice": "0" * 64, "bob": "1" * 64}})})),
+        ("others agree to another deal", 6, lambda told: told.update({"/v1/swaps/1/0/agreed": json.dumps(agreed)})),
     ]
+
+
+def sent_wish(client: object, to: str, units: int, asset: str) -> None:
+    """Has a wallet know a wish as one that it sent."""
+    step = client.book.step  # type: ignore[attr-defined]
+    step([("insert into wish values ('m', ?, ?, ?, null, null)", (to, units, asset)), ("insert into sent values ('m', 1)", ())])
+
+
+def isnt_believed(folder: Path, party_path: str) -> str:
+    """Each lie of an exchange, and the moment at which the wallet finds it."""
+    from swap_exchange.client import Client, Owner
+    from swap_exchange.honest import LieError
+    from swap_party import Program
+
+    party = Program(party_path)
+    lies = lies_of(party)
     for number, (why, turn, lie) in enumerate(lies):
         liar = Liar(party, told_by(0, OFFER))
-        client = Client(folder / f"home{number}", liar, None, party, "alice", True)  # type: ignore[arg-type]
-        client.book.step([("insert into wish values ('m', 'bob', 5, 'coin', null, null)", ()), ("insert into sent values ('m', 1)", ())])
+        client = Client(folder / f"home{number}", liar, party, Owner("alice", True, True))  # type: ignore[arg-type]
+        sent_wish(client, "bob", 5, "coin")
         liar.told["/v1/swaps/1/0/agreed"] = '{"whole":false,"settles":false,"texts":{"alice":""}}'
         try:
             for at in range(1, 8):
@@ -301,5 +338,99 @@ def isnt_believed(folder: Path, party_path: str) -> str:
             must(why in str(found), f"instead of '{why}' a wallet finds '{found}'")
         else:
             raise AssertionError(f"a wallet doesn't find that {why}")
+        client.close()
         shutil.rmtree(folder / f"home{number}")
+    declines_times(folder, party)
     return f"a wallet found {len(lies)} lies of an exchange"
+
+
+def declines_times(folder: Path, party: object) -> None:
+    """A wallet doesn't agree, by itself, to times that its owner doesn't take."""
+    from swap_exchange.client import Client, Owner
+
+    owners = [Owner("alice", True, True, least_delta=11), Owner("alice", True, True, most_horizon=49), Owner("alice", True, True, 10, 50)]
+    for number, owner in enumerate(owners):
+        liar = Liar(party, {**told_by(0, OFFER), "/v1/swaps/1/0/agreed": '{"whole":false,"settles":false,"texts":{"alice":""}}'})
+        client = Client(folder / f"times{number}", liar, party, owner)  # type: ignore[arg-type]
+        sent_wish(client, "bob", 5, "coin")
+        with redirect_stdout(StringIO()):
+            for _ in range(4):
+                client.turn()
+        must((client.wallets["1/0"].notes.agreement is None) == (number < 2), f"a wallet agrees otherwise than {owner} takes")
+        client.close()
+
+
+class Turning:
+    """An exchange for alice and bob that is honest until both settle. From then on it tells alice what
+    is no JSON, and doesn't answer bob."""
+
+    def __init__(self, party: object) -> None:
+        self.party, self.offer, self.context = party, told_by(0, OFFER)["/v1/swaps/1/0/offer"], told_by(0, OFFER)["/v1/swaps/1/0/context"]
+        self.rows: Told = {}
+        self.agreed: Told = {}
+        self.settle: set[str] = set()
+        self.is_over = threading.Event()
+
+    def told(self, name: str, method: str, path: str, body: str | None) -> str:
+        word = path.rpartition("/")[2]
+        if self.settle == {"alice", "bob"}:
+            self.is_over.wait(PATIENCE if name == "bob" else 0)
+            return "no JSON"
+        if method == "PUT":
+            (self.rows if word == "row" else self.agreed)[name] = str(body)
+            return ""
+        if word == "agreed" and len(self.agreed) == 2:
+            self.settle.add(name)
+        texts = {"rows": self.rows, "agreed": self.agreed}.get(word, {})
+        if word == "deal":
+            return str(self.party.deal(self.offer, self.rows.values()))  # type: ignore[attr-defined]
+        if word == "swaps":
+            return json.dumps({"swaps": [{"day": "1", "swap": 0, "name": name, "settles": False}]})
+        return {"offer": self.offer, "context": self.context}.get(word, json.dumps({"whole": len(texts) == 2, "settles": len(texts) == 2, "texts": texts}))
+
+
+class Seen:
+    """The exchange, as one user sees it."""
+
+    def __init__(self, exchange: Turning, name: str) -> None:
+        self.exchange, self.name = exchange, name
+
+    def ask(self, method: str, path: str, body: str | None = None) -> str:
+        return self.exchange.told(self.name, method, path, body)
+
+
+def settles_anyhow(folder: Path, party_path: str) -> str:
+    """Wallets that have agreed settle, though the exchange lies, or doesn't answer any more."""
+    from swap_exchange.client import Client, Owner, live
+    from swap_exchange.remote import Http
+    from swap_exchange.settler import Settler
+    from swap_exchange.wallet_book import Book
+    from swap_party import Program
+
+    party, port, ended = Program(party_path), free_port(), dict[str, int]()
+    exchange = Turning(party)
+    chains = Process(folder, "chains", EXCHANGE / "chains", "--folder", folder / "chains", "--port", port, "--patience", PATIENCE)
+
+    def lives(name: str, to: str, units: int, asset: str) -> None:
+        client = Client(folder / name, Seen(exchange, name), party, Owner(name, True, True))  # type: ignore[arg-type]
+        sent_wish(client, to, units, asset)
+        ended[name] = live(client, Settler(folder / name, party, Http(f"http://127.0.0.1:{port}"), True), None)
+
+    told = StringIO()
+    threads = [threading.Thread(target=lives, args=it, daemon=True) for it in (("alice", "bob", 5, "coin"), ("bob", "alice", 7, "gold"))]
+    try:
+        with redirect_stdout(StringIO()), redirect_stderr(told):
+            for it in threads:
+                it.start()
+            until = time.monotonic() + PATIENCE
+            while not all((folder / name).is_dir() and Book(folder / name).count_left() == 1 for name in ("alice", "bob")):
+                must(time.monotonic() < until, f"wallets don't settle: {told.getvalue()}")
+                time.sleep(0.2)
+            threads[0].join(PATIENCE)
+            exchange.is_over.set()
+            threads[1].join(PATIENCE)
+    finally:
+        chains.process.kill()
+        chains.process.wait()
+    must(ended == {"alice": 1, "bob": 1}, f"wallets end with {ended}: {told.getvalue()}")
+    return "two wallets settled with an exchange that lied, and one that didn't answer"

@@ -3,43 +3,28 @@ from __future__ import annotations
 
 import asyncio
 import json
-import time
 from collections.abc import AsyncIterator, Callable
 from typing import Any
 
 from fastapi import FastAPI, HTTPException, Request
+from fastapi.exceptions import RequestValidationError
 from starlette.concurrency import run_in_threadpool
-from starlette.responses import JSONResponse, PlainTextResponse, Response, StreamingResponse
+from starlette.responses import HTMLResponse, JSONResponse, PlainTextResponse, Response, StreamingResponse
 
 from swap_party import Row
 from swap_party.lines import WordError
 
 from .keeper import Keeper, Offered
-from .state import State
+from .limiter import BODY, RATE, Limiter
+from .paths import page_of
 from .store import AGREE, CONTEXT, DEAL, MARK, OFFER, OVER, ROW, ConflictError, Person, Store
 from .tables import RuleError, clipped, id_of, members_of, rule
-from .told import amount, wishes_in
+from .told import amount
 from .wishes import wish_of
+from .work import FaultError
 
-# The most bytes of a body, requests of a token in a second and at once, and streams of events
-BODY, RATE, BURST, STREAMS = 65_536, 50.0, 200.0, 200
 WISH = {"to": "bob", "units": "5", "asset": "coin", "value": 5, "mark": "a text of yours"}
-
-
-class Limiter:
-    """A bucket of requests for each token."""
-
-    def __init__(self) -> None:
-        self.buckets: dict[str, tuple[float, float]] = {}
-
-    def has_room(self, token: str) -> bool:
-        present = time.monotonic()
-        left, last = self.buckets.get(token, (BURST, present))
-        left = min(BURST, left + RATE * (present - last))
-        self.buckets[token] = max(0.0, left - 1), present
-        if len(self.buckets) > 100_000:
-            self.buckets.clear()
-        return left >= 1
+CLOSE = {"day": "1"}
 
 
 async def body_of(request: Request) -> bytes:
@@ -53,10 +38,11 @@ async def body_of(request: Request) -> bytes:
 
 
 async def object_in(request: Request, fields: dict[str, tuple[type, ...]], needed: set[str]) -> dict[str, Any]:
-    """The body's JSON object, whose members are known and of their kinds, each told once."""
+    """The body's JSON object, whose members are known and of their kinds, each told once. No body is
+    an empty one."""
     text = await body_of(request)
     try:
-        found = json.loads(text, object_pairs_hook=members_of)
+        found = json.loads(text or b"{}", object_pairs_hook=members_of)
         rule(isinstance(found, dict), "the body is no JSON object")
         for name, value in found.items():
             rule(name in fields, f"{name!r} is no field; the fields are {', '.join(fields)}")
@@ -74,17 +60,17 @@ class Api:
     """What each path does. `is_ending` tells streams that the service ends."""
 
     def __init__(self, store: Store, keeper: Keeper, is_ending: Callable[[], bool]) -> None:
-        self.store, self.keeper, self.is_ending, self.limiter, self.streams = store, keeper, is_ending, Limiter(), 0
+        self.store, self.keeper, self.is_ending, self.limiter = store, keeper, is_ending, Limiter()
 
     # ---- who asks
 
     async def person(self, request: Request) -> Person:
-        token = request.headers.get("authorization", "").removeprefix("Bearer ")
-        if not self.limiter.has_room(token):
-            raise HTTPException(429, f"a token has {RATE:.0f} requests a second", {"Retry-After": "1"})
-        found: Person | None = await run_in_threadpool(self.store.person, token) if token else None
+        scheme, _, token = request.headers.get("authorization", "").partition(" ")
+        found = self.store.person(token) if scheme.lower() == "bearer" else None
         if found is None:
             raise HTTPException(401, "a token is wanted: Authorization: Bearer TOKEN", {"WWW-Authenticate": "Bearer"})
+        if not self.limiter.has_room(found.name):
+            raise HTTPException(429, f"a user has {RATE:.0f} requests a second", {"Retry-After": "1"})
         return found
 
     async def admin(self, request: Request) -> Person:
@@ -112,7 +98,8 @@ class Api:
 
     async def close_day(self, request: Request) -> dict[str, object]:
         await self.admin(request)
-        return {"closed": await self.kept(self.store.close_day)}
+        told = await object_in(request, {"day": (str,)}, set())
+        return {"closed": await self.kept(self.store.close_day, False, told.get("day"))}
 
     # ---- a user's wishes
 
@@ -130,7 +117,7 @@ class Api:
             words["units"] = amount(max(0, told["units"]), asset.decimals)
         wish = wish_of(words, self.keeper.assets)
         rule("value" in told or asset is not None and asset.price is not None, f"a wish of {wish.asset!r} tells its value, as the asset has no price here")
-        rule(1 <= len(told["mark"]) <= MARK, f"a mark has 1 to {MARK} characters")
+        rule(1 <= len(told["mark"]) <= MARK and told["mark"].isprintable(), f"a mark has 1 to {MARK} characters that can be printed")
         return self.store.send(wish.payer, wish.payee, wish.units, wish.asset, wish.value, told["mark"])
 
     async def withdraw(self, wish: int, request: Request) -> Response:
@@ -146,17 +133,15 @@ class Api:
 
     def state_of(self, name: str) -> dict[str, object]:
         """A user's wishes, oldest first, with what became of them."""
-        stages = dict(self.store.days())
-        ended: dict[int, dict[str, Any]] = {}
         sent = self.store.sent_by(name)
-        for day in sorted({str(it[1]) for it in sent}):
-            if stages[day] == OVER:
-                numbers = [it[0] for it in self.store.sent_on(day)]
-                ended.update(zip(numbers, wishes_in(State(self.store.database, day))))
+        stages = {day: self.store.stage_of(day) for day in sorted({str(it[1]) for it in sent})}
+        ended = {day: iter(self.store.became(name, day)) for day, stage in stages.items() if stage == OVER}
         wishes = []
         for wish, day, to, units, asset, value, is_withdrawn in sent:
-            end = ended.get(wish, {"state": "withdrawn" if is_withdrawn else stages[str(day)], "reason": "", "swap": None})
-            became = {it: end[it] for it in ("state", "reason", "swap")}
+            end: tuple[Any, ...] = ("withdrawn" if is_withdrawn else stages[day], "", None)
+            if day in ended and not is_withdrawn:
+                end = next(ended[day], ("dropped", "its day was refused", None))
+            became = dict(zip(("state", "reason", "swap"), end))
             wishes.append({"wish": wish, "day": day, "to": to, "units": units, "asset": asset, "value": value, **became})
         return {"name": name, "open_day": self.store.open_day(), "wishes": wishes}
 
@@ -164,23 +149,15 @@ class Api:
 
     def found(self, name: str, day: str, swap: int) -> tuple[str, Offered]:
         """The name inside a swap that a user has, and the swap."""
-        running = self.keeper.days.get(day)
-        it = running.swaps.get(swap) if running else None
-        alias = next((alias for alias, known in it.names.items() if known == name), None) if it else None
-        if it is None or alias is None:
+        it = self.keeper.swaps_of(name).get((day, swap))
+        if it is None:
             raise HTTPException(404, "you have no such swap that is under way")
-        return alias, it
+        return it
 
     async def swaps(self, request: Request) -> dict[str, object]:
         person = await self.person(request)
-        found = [
-            {"day": day, "swap": swap, "name": alias, "settles": it.settles is not None}
-            for day, running in list(self.keeper.days.items())
-            for swap, it in list(running.swaps.items())
-            for alias, name in it.names.items()
-            if name == person.name
-        ]
-        return {"swaps": found}
+        found = self.keeper.swaps_of(person.name).items()
+        return {"swaps": [{"day": day, "swap": swap, "name": alias, "settles": it.settles is not None} for (day, swap), (alias, it) in found]}
 
     async def text(self, day: str, swap: int, kind: str, request: Request) -> Response:
         """The offer, its context, or the deal, as it is."""
@@ -240,22 +217,22 @@ class Api:
         return {"days": [{"day": day, "stage": stage} for day, stage in await self.kept(self.store.days)]}
 
     def progress(self, day: str) -> dict[str, object] | None:
-        stage = dict(self.store.days()).get(day)
+        stage = self.store.stage_of(day)
         running = self.keeper.days.get(day)
         swaps = list(running.swaps.values()) if running else []
         settling = sum(it.settles is not None for it in swaps)
         return {"day": day, "stage": stage, "offered": len(swaps) - settling, "settling": settling} if stage else None
 
     async def events(self, day: str, request: Request) -> Response:
-        await self.person(request)
+        person = await self.person(request)
         if await self.kept(self.progress, day) is None:
             raise HTTPException(404, "there is no such day")
-        if self.streams >= STREAMS:
-            raise HTTPException(503, "too many follow days", {"Retry-After": "10"})
-        return StreamingResponse(self.stream(day), media_type="text/event-stream", headers={"Cache-Control": "no-store"})
+        if not self.limiter.may_follow(person.name):
+            raise HTTPException(503, "too many streams of events are open", {"Retry-After": "10"})
+        return StreamingResponse(self.stream(person.name, day), media_type="text/event-stream", headers={"Cache-Control": "no-store"})
 
-    async def stream(self, day: str) -> AsyncIterator[str]:
-        self.streams += 1
+    async def stream(self, name: str, day: str) -> AsyncIterator[str]:
+        self.limiter.streams[name] += 1
         last: dict[str, object] | None = None
         try:
             while not self.is_ending():
@@ -267,10 +244,11 @@ class Api:
                     return
                 await asyncio.sleep(0.25)
         finally:
-            self.streams -= 1
+            self.limiter.streams[name] -= 1
 
     async def health(self) -> Response:
-        return JSONResponse({"fault": self.keeper.fault}, 503 if self.keeper.fault else 200)
+        """(what the fault is stands in the log: anybody may ask here)"""
+        return JSONResponse({"healthy": not self.keeper.fault}, 503 if self.keeper.fault else 200)
 
     async def metrics(self) -> Response:
         try:
@@ -285,12 +263,13 @@ def body(example: object, kind: str = "application/json") -> dict[str, object]:
 
 
 def application(api: Api, version: str) -> Any:
-    """The application, with its page of all paths at /docs."""
-    app = FastAPI(title="swap exchange", version=version, description="Wishes come in, and users' wallets settle them elsewhere.")
+    """The application, with its page of all paths at /docs, which loads nothing from elsewhere."""
+    about = "Wishes come in, and users' wallets settle them elsewhere."
+    app = FastAPI(title="swap exchange", version=version, description=about, docs_url=None, redoc_url=None)
     swap = "/v1/swaps/{day}/{swap}"
     for path, method, call, extra, told in [
         ("/v1/people", "POST", api.put_person, body({"name": "alice", "admin": False}), "Admin: a fresh token of somebody"),
-        ("/v1/days/close", "POST", api.close_day, None, "Admin: close the open day"),
+        ("/v1/days/close", "POST", api.close_day, body(CLOSE), "Admin: close the open day; one that is named is closed once"),
         ("/v1/days", "GET", api.days, None, "Each day and its stage"),
         ("/v1/days/{day}/events", "GET", api.events, None, "How far a day is, as server-sent events"),
         ("/v1/wishes", "POST", api.send, body(WISH), "Send a wish; the same mark sent again is the same wish"),
@@ -306,4 +285,16 @@ def application(api: Api, version: str) -> Any:
         ("/metrics", "GET", api.metrics, None, "Numbers for Prometheus"),
     ]:
         app.add_api_route(path, call, methods=[method], summary=told, openapi_extra=extra, response_model=None)
+    app.add_api_route("/docs", lambda: HTMLResponse(page_of(app.openapi())), include_in_schema=False, response_model=None)
+    app.add_exception_handler(RequestValidationError, bad_path)
+    app.add_exception_handler(FaultError, fault)
     return app
+
+
+async def bad_path(_: Request, why: RequestValidationError) -> Response:
+    return JSONResponse({"detail": clipped(f"the path's {why.errors()[0]['loc'][-1]} is no number")}, 422)
+
+
+async def fault(_: Request, why: FaultError) -> Response:
+    """What is kept can't be had just now: whoever asks may ask again."""
+    return JSONResponse({"detail": "the state can't be had"}, 503, {"Retry-After": "1"})

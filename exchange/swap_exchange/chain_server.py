@@ -1,7 +1,6 @@
 """The simulated chains of deals, behind HTTP."""
 from __future__ import annotations
 
-import argparse
 import json
 import os
 import re
@@ -14,9 +13,11 @@ from pathlib import Path
 from urllib.parse import parse_qs, urlsplit
 
 from chain import Chain
-from swap_party import Header
+from swap_party import Header, Publish
 from swap_party.calls import call_of
 from swap_party.lines import WordError
+
+from .words import Words, in_range
 
 BODY = 1 << 20
 PATH = re.compile("/deals/([0-9a-f]{64})(?:/([0-9]{1,3}|rest)(?:/([0-9]{1,2}))?)?")
@@ -143,7 +144,9 @@ class Handler(BaseHTTPRequestHandler):
             if method == "POST" and found[3] is not None:
                 if int(found[3]) not in self.ends(deal, chain):
                     raise ValueError("the party doesn't touch the arc")
-                chain.call(int(found[3]), call_of(body.split()))
+                call = call_of(body.split())
+                # (a publish carries a nonce: it stands once)
+                chain.call(int(found[3]), call, once=isinstance(call, Publish))
                 chain.look()
                 return "\n"
         raise LookupError
@@ -154,10 +157,10 @@ class Handler(BaseHTTPRequestHandler):
 
 
 def main(arguments: Sequence[str]) -> int:
-    words = argparse.ArgumentParser(prog="exchange/chains", description="Simulated chains behind HTTP.")
+    words = Words(prog="exchange/chains", description="Simulated chains behind HTTP.")
     words.add_argument("--folder", required=True, type=Path)
     words.add_argument("--host", default="127.0.0.1", metavar="ADDRESS", help="where it listens, 127.0.0.1 where left out")
-    words.add_argument("--port", type=int, default=8090)
+    words.add_argument("--port", type=in_range(1, 65535), default=8090, metavar="PORT", help="8090 where left out")
     words.add_argument("--patience", type=float, default=60.0, metavar="SECONDS")
     asked = words.parse_args(arguments)
     asked.folder.mkdir(parents=True, exist_ok=True)

@@ -1,4 +1,4 @@
-"""A user's wallet: it believes an exchange nothing that it can check by itself.
+"""A user's wallet towards an exchange, which it believes nothing that it can check by itself.
 
 What it sends is written down first. Of each swap that the exchange offers it checks, before it shows
 anything of a seed, that its own payments are wishes of its owner, each in one swap alone, to whom and
@@ -7,288 +7,220 @@ the one that it sent, and its owner agrees to that deal's terms.
 """
 from __future__ import annotations
 
-import argparse
 import json
-import os
 import secrets
-import sqlite3
-import sys
 import time
-from collections.abc import Sequence
+from dataclasses import dataclass
 from pathlib import Path
-from typing import Any
 
-from swap_party import Library, Party, Program, RefusedError, Row, Terms
-from swap_party.header import json_object
-from swap_party.lines import NAME, WordError
+from swap_party import Party, RefusedError, Terms, Wallet
+from swap_party.calls import MOST_NUMBER
 from swap_party.terms import About, Gets, Pays
 
-from .remote import Http, HttpError, Settlement
+from .honest import LieError, context_of, honest, in_order, member, object_in, plain_of, swaps_in, texts_in, used_wishes
+from .remote import Http, HttpError, RemoteChains
+from .settler import Settler, engine, say
+from .wallet_book import OFFERED, WITHDRAWING, WITHDRAWN, Book, Offer
+from .words import told
 
-TOP = Path(__file__).resolve().parent.parent.parent
-TABLES = (
-    "create table if not exists wish (mark text primary key, to_whom text not null, units integer not null, asset text not null, value integer, swap text)",
-    "create table if not exists sent (mark text primary key, wish integer not null)",
-    "create table if not exists swap (key text primary key, name text not null, offer text not null, context text not null, seed blob not null,"
-    " row text not null, header text, agreed text, stage text not null)",
-)
-OFFERED, AGREED, SETTLING, LEFT = "offered", "agreed", "settling", "left"
 PAUSE = 0.3
+# Statuses of an answer that says nothing of what was sent: it is sent again
+AGAIN = (0, 401, 403, 408, 425, 429, 500, 502, 503, 504)
 
 
-class LieError(Exception):
-    """What the exchange tells can't be true, or isn't what the owner wished."""
+def said_yes() -> bool:
+    """Whether the owner agrees; one who can't be asked doesn't."""
+    try:
+        return input("agree? [y/n] ").strip().lower() == "y"
+    except EOFError:
+        return False
 
 
-def honest(holds: object, why: str) -> None:
-    if not holds:
-        raise LieError(why)
+@dataclass(frozen=True)
+class Owner:
+    """What the owner told the wallet: the name at the exchange, whether it agrees without being asked
+    and whether the model may answer; in how few heights the wallet can react, and up to which height
+    units may be locked up."""
 
-
-class Book:
-    """What the wallet keeps: on the disk once a call returns."""
-
-    def __init__(self, home: Path) -> None:
-        home.mkdir(mode=0o700, parents=True, exist_ok=True)
-        os.close(os.open(home / "wallet.db", os.O_CREAT | os.O_RDWR, 0o600))
-        self.database = sqlite3.connect(home / "wallet.db", isolation_level=None, timeout=30)
-        for pragma in ("journal_mode = DELETE", "synchronous = FULL", "fullfsync = ON", "secure_delete = ON"):
-            self.database.execute(f"pragma {pragma}").fetchall()
-        for table in TABLES:
-            self.database.execute(table)
-
-    def rows(self, ask: str, *words: object) -> list[tuple[Any, ...]]:
-        return self.database.execute(ask, words).fetchall()
-
-    def step(self, changes: Sequence[tuple[str, tuple[object, ...]]]) -> None:
-        """All of these changes, or none."""
-        self.database.execute("begin immediate")
-        try:
-            for change, words in changes:
-                self.database.execute(change, words)
-        except BaseException:
-            self.database.execute("rollback")
-            raise
-        self.database.execute("commit")
-
-
-def about(arc: int, asset: str, payer: str, payee: str) -> str:
-    """The line of context that an arc has to have."""
-    return f"about {arc} {json.dumps({'asset': asset, 'from': payer, 'to': payee}, sort_keys=True)}"
+    name: str
+    is_agreed: bool = False
+    allow_unproved: bool = False
+    least_delta: int = 5
+    most_horizon: int = MOST_NUMBER
 
 
 class Client:
-    def __init__(self, home: Path, server: Http, chains: Http | None, party: Party, name: str, is_agreed: bool) -> None:
-        self.home, self.server, self.chains, self.party, self.name, self.is_agreed = home, server, chains, party, name, is_agreed
+    """What passes between a wallet and the exchange, up to swaps to which all have agreed."""
+
+    def __init__(self, home: Path, server: Http, party: Party, owner: Owner) -> None:
+        self.server, self.party, self.name, self.owner = server, party, owner.name, owner
         self.book = Book(home)
-        self.settlements: dict[str, Settlement] = {}
-        self.settled: list[str] = []
+        self.wallets: dict[str, Wallet] = {}
+        self.declined: set[str] = set()
 
     # ---- wishes
 
     def wish(self, to: str, units: int, asset: str, value: int | None) -> int:
         """Writes a wish down, and sends it. Where it was stopped in between, `resend` sends it."""
-        self.book.step([("insert into wish values (?, ?, ?, ?, ?, null)", (secrets.token_hex(16), to, units, asset, value))])
-        return self.resend()
+        mark = secrets.token_hex(16)
+        self.book.step([("insert into wish values (?, ?, ?, ?, ?, null)", (mark, to, units, asset, value))])
+        try:
+            self.resend()
+        except HttpError as why:
+            if self.book.rows("select mark from wish where mark = ?", mark):
+                raise HttpError(0, f"{why}; the wish is kept, and goes with the next one or with `live`") from None
+            raise
+        return int(self.book.rows("select wish from sent where mark = ?", mark)[0][0])
 
-    def resend(self) -> int:
-        """Sends what was written down and wasn't answered. A mark sent twice is one wish."""
-        last = 0
+    def resend(self) -> None:
+        """Sends what was written down and wasn't answered. A mark sent twice is one wish, and a wish
+        that the exchange refuses is struck out."""
         ask = "select mark, to_whom, units, asset, value from wish where mark not in (select mark from sent) order by rowid"
         for mark, to, units, asset, value in self.book.rows(ask):
-            told = {"to": to, "units": units, "asset": asset, "mark": mark, **({} if value is None else {"value": value})}
-            last = int(json.loads(self.server.ask("POST", "/v1/wishes", json.dumps(told)))["wish"])
-            self.book.step([("insert into sent values (?, ?)", (mark, last))])
-        return last
+            wish = {"to": to, "units": units, "asset": asset, "mark": mark, **({} if value is None else {"value": value})}
+            try:
+                number = member(object_in(self.server.ask("POST", "/v1/wishes", json.dumps(wish))), "wish", int)
+            except HttpError as why:
+                if why.status not in AGAIN:
+                    self.book.step([("delete from wish where mark = ?", (mark,))])
+                raise
+            self.book.step([("insert into sent values (?, ?)", (mark, number))])
+        for mark, number in self.book.rows("select wish.mark, sent.wish from wish join sent on wish.mark = sent.mark where swap = ?", WITHDRAWING):
+            self.take_back(mark, number)
 
-    # ---- a swap, from its offer to its end
+    def withdraw(self, number: int) -> None:
+        """Takes a wish back: from now on no swap may use it, unless the exchange says that it's too
+        late."""
+        mine = "mark = (select mark from sent where wish = ?)"
+        self.book.step([(f"update wish set swap = ? where swap is null and {mine}", (WITHDRAWING, number))])
+        found = self.book.rows(f"select mark, swap from wish where {mine}", number)
+        if not found:
+            raise HttpError(404, "you have no such wish")
+        if found[0][1] not in (WITHDRAWING, WITHDRAWN):
+            raise HttpError(409, f"swap {found[0][1]} has the wish")
+        self.take_back(str(found[0][0]), number)
+
+    def take_back(self, mark: str, number: int) -> None:
+        became = WITHDRAWN
+        try:
+            self.server.ask("DELETE", f"/v1/wishes/{number}")
+        except HttpError as why:
+            if why.status != 409:
+                raise
+            became = ""
+        self.book.step([("update wish set swap = nullif(?, '') where mark = ?", (became, mark))])
+        if not became:
+            raise HttpError(409, "the wish's day is closed")
+
+    # ---- a swap, from its offer until all have agreed
 
     def turn(self) -> None:
         """Does what there is to do in each swap."""
-        told = json.loads(self.server.ask("GET", "/v1/swaps"))["swaps"]
-        for it in told:
-            key = f"{it['day']}/{int(it['swap'])}"
-            stage = self.stage(key)
+        self.resend()
+        for key, name in swaps_in(self.server.ask("GET", "/v1/swaps")):
+            stage = self.book.stage(key)
             if stage is None:
-                self.take(key, str(it["name"]))
-            elif stage == OFFERED:
-                self.agree(key)
-            elif stage == AGREED:
-                self.await_all(key)
-        for (key,) in self.book.rows("select key from swap where stage = ?", SETTLING):
-            self.settle(key)
-
-    def stage(self, key: str) -> str | None:
-        found = self.book.rows("select stage from swap where key = ?", key)
-        return str(found[0][0]) if found else None
+                self.take(key, name)
+            elif stage == OFFERED and key not in self.declined:
+                self.go_on(key)
 
     def path(self, key: str, word: str) -> str:
         return f"/v1/swaps/{key}/{word}"
 
     def take(self, key: str, name: str) -> None:
-        """Looks at an offer, and sends a row for it."""
-        offer = self.server.ask("GET", self.path(key, "offer"))
-        context = self.server.ask("GET", self.path(key, "context"))
-        used = self.wishes_of(name, offer, context)
-        seed = secrets.token_bytes(32)
-        row = self.party.keys(name, seed, offer)
-        put = "insert into swap values (?, ?, ?, ?, ?, ?, null, null, ?)", (key, name, offer, context, seed, row, OFFERED)
-        self.book.step([put, *(("update wish set swap = ? where mark = ?", (key, mark)) for mark in used)])
+        """Looks at an offer, and writes it down."""
+        offer, context = (self.server.ask("GET", self.path(key, it)) for it in ("offer", "context"))
+        marks = used_wishes(self.name, name, offer, context, self.book.free_wishes())
+        self.book.take(Offer(key, name, offer, tuple(context.splitlines()), secrets.token_bytes(32)), marks)
 
-    def wishes_of(self, name: str, offer: str, context: str) -> list[str]:
-        """The marks of the wishes that an offer has the owner pay, each by one arc."""
-        honest(name == self.name if NAME.fullmatch(self.name) else name.startswith("_"), f"the exchange calls {self.name} {name}")
-        plain, told = json_object(offer.strip()), context.splitlines()
-        honest(any(it["name"] == name for it in plain["parties"]), f"{name} isn't in the swap")
-        honest(len(told) == len(plain["arcs"]), "the context hasn't a line for each arc")
-        free = self.book.rows("select mark, to_whom, units, asset from wish where swap is null order by rowid")
-        used: list[str] = []
-        for arc, (it, line) in enumerate(zip(plain["arcs"], told)):
-            found = json.loads(line.partition(f"about {arc} ")[2] or "{}")
-            honest(line == about(arc, str(found.get("asset")), str(found.get("from")), str(found.get("to"))), f"arc {arc} has another context: {line[:60]}")
-            honest(it["to"] != name or found["to"] == self.name, f"arc {arc} would pay {self.name}, and its context says {found['to']}")
-            if it["from"] == name:
-                honest(found["from"] == self.name, f"arc {arc} would be paid by {self.name}, and its context says {found['from']}")
-                mark = next((mark for mark, *wish in free if mark not in used and wish == [found["to"], it["amount"], found["asset"]]), None)
-                honest(mark, f"no free wish of {self.name} pays {found['to']} {it['amount']} {found['asset']}")
-                used.append(str(mark))
-        honest(used, f"{self.name} would pay nothing")
-        return used
+    def go_on(self, key: str) -> None:
+        it = self.book.offer(key)
+        if key not in self.wallets:
+            # (no chain is read before all have agreed)
+            self.wallets[key] = engine(self.party, self.book, it, RemoteChains(self.server), self.owner.allow_unproved)
+        wallet = self.wallets[key]
+        if wallet.notes.agreement is None:
+            self.agree(it, wallet)
+        else:
+            self.await_all(it, wallet)
 
-    def agree(self, key: str) -> None:
-        """Sends the row, and makes the deal once all rows are there."""
-        name, offer, context, row = self.book.rows("select name, offer, context, row from swap where key = ?", key)[0]
-        rows = json.loads(self.server.ask("GET", self.path(key, "rows")))
-        if name not in rows["texts"]:
-            self.server.ask("PUT", self.path(key, "row"), row)
-        elif rows["whole"]:
-            header = self.deal_of(name, offer, row, dict(rows["texts"]))
-            told = self.server.ask("GET", self.path(key, "deal")).strip()
-            honest(told == header, "the exchange tells another deal than that of the rows")
-            terms = Terms.parse(self.party.terms(name, header + "\n" + context))
-            if self.shown(key, name, terms, context):
-                self.book.step([("update swap set header = ?, agreed = ?, stage = ? where key = ?", (header, terms.agree, AGREED, key))])
+    def agree(self, it: Offer, wallet: Wallet) -> None:
+        """Sends the row, and agrees to the deal of all rows once these are there."""
+        answered = object_in(self.server.ask("GET", self.path(it.key, "rows")))
+        texts = texts_in(answered)
+        try:
+            if it.name not in texts:
+                self.server.ask("PUT", self.path(it.key, "row"), wallet.row(it.offer))
+            elif member(answered, "whole", bool):
+                header = self.party.deal(it.offer, in_order(it.offer, it.name, wallet.row(it.offer), texts)).strip()
+                honest(self.server.ask("GET", self.path(it.key, "deal")).strip() == header, "the exchange tells another deal than that of the rows")
+                terms = wallet.terms(header, it.context)
+                if self.suits(it, terms) and self.shown(it, terms):
+                    wallet.agree(header, it.context)
+                else:
+                    self.declined.add(it.key)
+        except RefusedError as why:
+            raise LieError(f"what the exchange offers is refused: {why}") from None
 
-    def deal_of(self, name: str, offer: str, row: str, texts: dict[str, str]) -> str:
-        """The header of the deal of everybody's rows, with the own one among them."""
-        honest(texts.get(name) == row, "the exchange tells another row than the one that was sent")
-        names = [str(it["name"]) for it in json_object(offer.strip())["parties"]]
-        honest(sorted(texts) == sorted(names), "the rows are those of others")
-        honest(all(Row.parse(text).name == it for it, text in texts.items()), "a row is another one's")
-        return self.party.deal(offer, [texts[it] for it in names]).strip()
+    def suits(self, it: Offer, terms: Terms) -> bool:
+        """Whether the times are such as the owner takes."""
+        if terms.delta < self.owner.least_delta:
+            say(f"swap {it.key} isn't taken: it leaves {terms.delta} heights to react, and --least-delta is {self.owner.least_delta}")
+        elif terms.horizon > self.owner.most_horizon:
+            say(f"swap {it.key} isn't taken: it is over by height {terms.horizon}, and --most-horizon is {self.owner.most_horizon}")
+        else:
+            return True
+        return False
 
-    def shown(self, key: str, name: str, terms: Terms, context: str) -> bool:
+    def shown(self, it: Offer, terms: Terms) -> bool:
         """Shows the owner the terms, and whether the owner agrees."""
-        told = {int(line.split(" ")[1]): json.loads(line.split(" ", 2)[2]) for line in context.splitlines()}
-        print(f"swap {key}: deal {terms.deal[:16]}.. of {terms.parties} parties, over by height {terms.horizon}")
-        for it in terms.terms:
-            if isinstance(it, Pays):
-                print(f"  you pay {told[it.arc]['to']} {it.amount} {told[it.arc]['asset']} by {it.publish_by}, back from {it.back} on if not")
-            elif isinstance(it, Gets):
-                print(f"  {told[it.arc]['from']} pays you {it.amount} {told[it.arc]['asset']}")
-        honest(all(f"about {it.arc} {it.text}" in context.splitlines() for it in terms.terms if isinstance(it, About)), "the terms have another context")
-        sys.stdout.flush()
-        return self.is_agreed or input("agree? [y/n] ").strip().lower() == "y"
+        said = context_of("\n".join(it.context), len(plain_of(it.offer)[1]))
+        honest({str(line) for line in terms.terms if isinstance(line, About)} <= set(it.context), "the terms have another context")
+        say(f"swap {it.key}: deal {terms.deal[:16]}.. of {terms.parties} parties, over by height {terms.horizon}")
+        for line in terms.terms:
+            if isinstance(line, Pays):
+                say(f"  you pay {said[line.arc]['to']} {line.amount} {said[line.arc]['asset']} by {line.publish_by}, back from {line.back} on if not")
+            elif isinstance(line, Gets):
+                say(f"  {said[line.arc]['from']} pays you {line.amount} {said[line.arc]['asset']}")
+        return self.owner.is_agreed or said_yes()
 
-    def await_all(self, key: str) -> None:
-        """Sends what it agrees to, and settles once all agree to the same."""
-        name, agreed = self.book.rows("select name, agreed from swap where key = ?", key)[0]
-        told = json.loads(self.server.ask("GET", self.path(key, "agreed")))
-        if name not in told["texts"]:
-            self.server.ask("PUT", self.path(key, "agree"), agreed)
-        elif told["whole"] and told["settles"]:
-            honest(set(told["texts"].values()) == {agreed}, "others agree to another deal")
-            self.book.step([("update swap set stage = ? where key = ?", (SETTLING, key))])
+    def await_all(self, it: Offer, wallet: Wallet) -> None:
+        """Sends what it agreed to. Once all agreed to the same the swap settles, for which the notes
+        are let go."""
+        digest = wallet.agreement.digest
+        answered = object_in(self.server.ask("GET", self.path(it.key, "agreed")))
+        texts = texts_in(answered)
+        if it.name not in texts:
+            self.server.ask("PUT", self.path(it.key, "agree"), digest)
+        elif member(answered, "whole", bool) and member(answered, "settles", bool):
+            honest(set(texts.values()) == {digest}, "others agree to another deal")
+            self.wallets.pop(it.key).close()
+            self.book.settle(it.key)
 
-    def settle(self, key: str) -> None:
-        assert self.chains
-        if key not in self.settlements:
-            name, seed, agreed, header, context = self.book.rows("select name, seed, agreed, header, context from swap where key = ?", key)[0]
-            notes = self.home / f"notes-{key.replace('/', '-')}"
-            self.settlements[key] = Settlement(self.party, self.chains, notes, name, bytes(seed), agreed, header, context)
-        if self.settlements[key].turn():
-            told = self.settlements.pop(key).end()
-            self.book.step([("update swap set stage = ?, seed = x'' where key = ?", (LEFT, key))])
-            print(f"swap {key} is over: {', '.join(f'arc {arc} {end}' for arc, end in told.items())}", flush=True)
-
-    def count_left(self) -> int:
-        return int(self.book.rows("select count(*) from swap where stage = ?", LEFT)[0][0])
-
-    def live(self, until: int | None) -> None:
-        """Goes on until so many swaps are over. A server that doesn't answer is asked again."""
-        while until is None or self.count_left() < until:
-            try:
-                self.resend()
-                self.turn()
-            except HttpError as why:
-                if why.status in (401, 403):
-                    raise
-                # (what isn't there yet, or a server that is being started again)
-            time.sleep(PAUSE)
+    def close(self) -> None:
+        for it in self.wallets.values():
+            it.close()
+        self.book.close()
 
 
-# ---- words
-
-
-def all_words() -> argparse.ArgumentParser:
-    words = argparse.ArgumentParser(prog="exchange/wallet", description="A user's wallet for an exchange's swaps.")
-    words.add_argument("--version", action="version", version=f"exchange {(TOP / 'VERSION').read_text().strip()}")
-    words.add_argument("--server", required=True, metavar="URL", help="the exchange")
-    words.add_argument("--home", required=True, type=Path, metavar="FOLDER", help="the wallet's own folder, with the files `name` and `token`")
-    words.add_argument("--party", metavar="PATH", help="the program `party`, or the library libswap_party.so.1; else the best one here")
-    commands = words.add_subparsers(required=True, dest="command", metavar="COMMAND")
-    wish = commands.add_parser("wish", help="send a wish")
-    wish.add_argument("--to", required=True, metavar="NAME")
-    wish.add_argument("--units", required=True, type=int)
-    wish.add_argument("--asset", required=True)
-    wish.add_argument("--value", type=int, help="what it is worth to you, as the exchange counts")
-    withdraw = commands.add_parser("withdraw", help="take a wish back while its day is open")
-    withdraw.add_argument("wish", type=int, metavar="WISH")
-    commands.add_parser("state", help="write what became of the wishes")
-    live = commands.add_parser("live", help="settle the swaps that the exchange offers")
-    live.add_argument("--chains", required=True, metavar="URL", help="the chains")
-    live.add_argument("--yes", action="store_true", help="agree to all terms that fit the owner's wishes, without asking")
-    live.add_argument("--until-settled", type=int, metavar="N", help="end once so many swaps are over")
-    return words
-
-
-def party_of(path: str | None) -> Party:
-    here = [str(TOP / it / "party") for it in ("out/proved", "out/unproved", "model") if os.access(TOP / it / "party", os.X_OK)]
-    found = path or [*here, "party"][0]
-    if ".so" in found:
-        return Library(found)
-    return Program(found)
-
-
-def run(asked: argparse.Namespace) -> int:
-    name, token = ((asked.home / it).read_text(encoding="utf-8").strip() for it in ("name", "token"))
-    server = Http(asked.server, token)
-    chains = Http(asked.chains) if asked.command == "live" else None
-    os.environ.setdefault("SWAP_PLAIN", "1")
-    client = Client(asked.home, server, chains, party_of(asked.party), name, asked.command == "live" and asked.yes)
-    if asked.command == "wish":
-        print(f"wish {client.wish(asked.to, asked.units, asked.asset, asked.value)}")
-    elif asked.command == "withdraw":
-        server.ask("DELETE", f"/v1/wishes/{asked.wish}")
-        client.book.step([("update wish set swap = 'withdrawn' where mark = (select mark from sent where wish = ?)", (asked.wish,))])
-    elif asked.command == "state":
-        print(json.dumps(json.loads(server.ask("GET", "/v1/state")), indent=1, ensure_ascii=False))
-    else:
-        client.live(asked.until_settled)
-    return 0
-
-
-def main(arguments: Sequence[str]) -> int:
-    try:
-        return run(all_words().parse_args(arguments))
-    except LieError as why:
-        print(f"wallet: the exchange isn't believed: {why}"[:200], file=sys.stderr)
-        return 1
-    except (HttpError, RefusedError, WordError) as why:
-        print(f"wallet: refused: {why}"[:200], file=sys.stderr)
-        return 3
-    except (OSError, sqlite3.Error) as why:
-        print(f"wallet: fault: {why}"[:200], file=sys.stderr)
-        return 4
-    except KeyboardInterrupt:
-        return 130
+def live(client: Client, settler: Settler, until: int | None) -> int:
+    """Goes on until so many swaps are over. A server that doesn't answer is asked again. Once the
+    exchange lied, or doesn't know the wallet, what is under way is settled, and nothing else."""
+    settler.start()
+    status, is_believed = 0, True
+    while client.book.settling() if not is_believed else until is None or client.book.count_left() < until:
+        try:
+            if is_believed:
+                client.turn()
+        except LieError as why:
+            status, is_believed = 1, False
+            told("the exchange isn't believed", why, "wallet")
+        except HttpError as why:
+            # (what isn't there yet, or a server that is being started again)
+            if why.status in (401, 403):
+                status, is_believed = 3, False
+                told("refused", why, "wallet")
+        time.sleep(PAUSE)
+    settler.is_ending.set()
+    settler.join()
+    return status

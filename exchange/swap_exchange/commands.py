@@ -6,7 +6,7 @@ import json
 import os
 import signal
 import sys
-from collections.abc import Callable, Iterator, Sequence
+from collections.abc import Iterator, Sequence
 from contextlib import contextmanager
 from pathlib import Path
 from typing import NoReturn
@@ -23,23 +23,13 @@ from .pool import Cluster, Crew, Workers
 from .progress import Log, Metrics, Progress
 from .simulated import simulated
 from .state import PACKED, State, days_in
-from .tables import RuleError, clipped, id_of
 from .told import day_of, text_of, word
 from .wallets import by_wallets
 from .wishes import Book, book_of, good, known_names
+from .words import DONE, FAULT, FOUND, REFUSED, TOP, Words, id_word, in_range, told
 from .work import FaultError, Programs, RefusedError, Way, has_program
 
-TOP = Path(__file__).resolve().parent.parent.parent
-DONE, FOUND, WORDS, REFUSED, FAULT = 0, 1, 2, 3, 4
 PLACES = ("out/proved", "out/unproved", "model")
-
-
-class Words(argparse.ArgumentParser):
-    """Wrong words are told in one line."""
-
-    def error(self, message: str) -> NoReturn:
-        print(clipped(f"exchange: wrong words: {clipped(message, 150)} (--help tells them)"), file=sys.stderr)
-        sys.exit(WORDS)
 
 
 def best(name: str) -> str:
@@ -48,27 +38,14 @@ def best(name: str) -> str:
 
 
 def best_library() -> str:
-    """The library of the repository, or nothing."""
-    return next((str(TOP / it / "libswap_party.so.1") for it in PLACES if (TOP / it / "libswap_party.so.1").is_file()), "")
-
-
-def in_range(least: int, most: int) -> Callable[[str], int]:
-    """Reads a word as a number in a range."""
-
-    def read(word: str) -> int:
-        if not word.isdecimal() or len(word) > 10 or not least <= int(word) <= most:
-            raise argparse.ArgumentTypeError(f"{word!r} is no number from {least} to {most}")
-        return int(word)
-
-    return read
-
-
-def id_word(word: str) -> str:
-    """Reads a word as a day's or a user's name."""
-    try:
-        return id_of(word, "the name")
-    except RuleError as why:
-        raise argparse.ArgumentTypeError(str(why)) from None
+    """The library of the repository, or nothing where there is none, or a program that is proved and no
+    library that is."""
+    for it in PLACES:
+        if (TOP / it / "libswap_party.so.1").is_file():
+            return str(TOP / it / "libswap_party.so.1")
+        if os.access(TOP / it / "swap", os.X_OK):
+            break
+    return ""
 
 
 class Stopped(BaseException):
@@ -188,10 +165,12 @@ def run_day(asked: argparse.Namespace) -> int:
         Words().error("--start is at least --delta")
     files = (asked.wishes, read(asked.wishes)), file_of(asked.accounts), file_of(asked.assets)
     book = book_of(*files)
-    if asked.check:
+    if asked.check and book.bad:
         return tell_bad(book)
     good(book)
     known_names(book.wishes, asked.away)
+    if asked.check:
+        return tell_bad(book)
     accounts = beginning(book.wishes, book.accounts)
     terms = Terms(asked.start, asked.delta, tuple(sorted(set(asked.away))), "wallets" if asked.wallets else "simulate")
     digest = digest_of([it and it[1] for it in files], terms)
@@ -211,10 +190,8 @@ def tell_bad(book: Book) -> int:
     """Lists every bad row."""
     for it in book.bad:
         print(f"exchange: bad: {it}", file=sys.stderr)
-    if book.count > len(book.bad):
-        print(f"exchange: bad: {book.count - len(book.bad)} more", file=sys.stderr)
-    write(f"{len(book.wishes)} wishes are good, {book.count} rows are bad\n")
-    return REFUSED if book.count else DONE
+    write(f"{len(book.wishes)} wishes are good, {len(book.bad)} rows are bad\n")
+    return REFUSED if book.bad else DONE
 
 
 @contextmanager
@@ -292,10 +269,6 @@ def run_days(asked: argparse.Namespace) -> int:
     finally:
         database.close()
     return DONE
-
-
-def told(kind: str, why: object) -> None:
-    print(clipped(f"exchange: {kind}: {why}"), file=sys.stderr)
 
 
 def stop(number: int, _: object) -> NoReturn:

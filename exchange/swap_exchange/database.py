@@ -6,6 +6,7 @@ import sqlite3
 import time
 from collections.abc import Callable, Iterable, Iterator, Sequence
 from contextlib import AbstractContextManager, contextmanager
+from functools import partial
 from itertools import islice
 from typing import Any, Protocol
 
@@ -117,10 +118,21 @@ class Postgres:
             raise StateError("a state in PostgreSQL needs psycopg2 (Debian: python3-psycopg2), which isn't here") from None
         self.error: type[Exception] = psycopg2.Error
         self.execute_batch: Callable[..., None] = psycopg2.extras.execute_batch
-        with self.told(StateError):
-            self.database: Any = psycopg2.connect(url)
+        self.connect: Callable[[], Any] = partial(psycopg2.connect, url)
+        self.open(StateError)
+
+    def open(self, kind: type[Exception]) -> None:
+        with self.told(kind):
+            self.database: Any = self.connect()
             self.database.autocommit = True
         self.lock()
+
+    def cursor(self) -> Any:
+        """A cursor. Where the connection broke the step under way was rolled back, and another
+        connection takes the lock."""
+        if self.database.closed:
+            self.open(FaultError)
+        return self.database.cursor()
 
     def lock(self) -> None:
         until = time.monotonic() + WAIT
@@ -137,17 +149,17 @@ class Postgres:
             raise kind((str(why).strip().splitlines() or ["PostgreSQL failed"])[0]) from None
 
     def rows(self, ask: str, *words: object) -> list[Row]:
-        with self.told(), self.database.cursor() as cursor:
+        with self.told(), self.cursor() as cursor:
             cursor.execute(ask.replace("?", "%s"), words)
             return [tuple(bytes(it) if isinstance(it, memoryview) else it for it in row) for row in cursor.fetchall()]
 
     def change(self, ask: str, *words: object) -> int:
-        with self.told(), self.database.cursor() as cursor:
+        with self.told(), self.cursor() as cursor:
             cursor.execute(ask.replace("?", "%s"), words)
             return int(cursor.rowcount)
 
     def change_each(self, ask: str, words: Iterable[Sequence[object]]) -> None:
-        with self.told(), self.database.cursor() as cursor:
+        with self.told(), self.cursor() as cursor:
             self.execute_batch(cursor, ask.replace("?", "%s"), list(words), page_size=1000)
 
     def step(self) -> AbstractContextManager[None]:

@@ -19,7 +19,7 @@ def started(programs: Programs, word: str, room: Path, name: str) -> subprocess.
     words = [sys.executable, str(WALLET), word, str(room), name]
     (room / name).mkdir(mode=0o700, exist_ok=True)
     with open(room / name / "told", "wb") as told:
-        environment = {**os.environ, "PARTY": programs.party}
+        environment = {**os.environ, "PARTY": programs.party, "SWAP_PARTY_LIBRARY": programs.library}
         return subprocess.Popen(words, stdin=subprocess.DEVNULL, stdout=subprocess.PIPE, stderr=told, env=environment)
 
 

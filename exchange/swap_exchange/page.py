@@ -3,6 +3,7 @@ and their drawings lead to each other."""
 from __future__ import annotations
 
 import json
+import re
 from pathlib import Path
 
 from .state import State
@@ -44,7 +45,12 @@ def told_of(day: Told, state: str) -> Told:
     }
 
 
+def without_password(state: str) -> str:
+    """A state's path, or its URL without the password."""
+    return re.sub("^([a-z]+://[^/?@:]*):[^/?@]*@", r"\1@", state)
+
+
 def page_of(state: State, path: str) -> str:
     """The page. No text of it ends the element in which the data stands."""
-    told = json.dumps(told_of(day_of(state), path), ensure_ascii=False, separators=(",", ":"))
+    told = json.dumps(told_of(day_of(state), without_password(path)), ensure_ascii=False, separators=(",", ":"))
     return TEMPLATE.read_text(encoding="utf-8").replace("@DATA@", told.replace("<", "\\u003c"))

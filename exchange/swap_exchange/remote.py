@@ -1,15 +1,18 @@
-"""A swap as a user's wallet settles it: what it agrees to, what it keeps, and chains over HTTP."""
+"""Servers that a user's wallet asks over HTTP: the exchange, and chains."""
 from __future__ import annotations
 
+import time
 import urllib.error
 import urllib.request
-from pathlib import Path
+from collections.abc import Iterable, Mapping
+from typing import Any
 
-from contract import Contract
-from swap_party import Answer, Asked, Due, Header, Keep, Landing, Ledger, Notes, Party, Publish, Sent, Tick, Wait
-from swap_party.calls import Call, Entry, entry_of
+from swap_party import Header, Reading
+from swap_party.calls import Call
 
-TIMEOUT = 30.0
+TIMEOUT, PAUSE = 30.0, 0.1
+# The most bytes of an answer
+MOST = 1 << 26
 
 
 class HttpError(Exception):
@@ -20,109 +23,76 @@ class HttpError(Exception):
         self.status = status
 
 
+class Stays(urllib.request.HTTPRedirectHandler):
+    """Follows no redirect, so that a token goes to its server alone."""
+
+    def redirect_request(self, *_: Any) -> None:
+        return None
+
+
 class Http:
     """A server that is asked over HTTP, with a token where there is one."""
 
     def __init__(self, url: str, token: str = "") -> None:
-        self.url, self.token = url.rstrip("/"), token
+        self.url, self.token, self.opener = url.rstrip("/"), token, urllib.request.build_opener(Stays)
 
     def ask(self, method: str, path: str, body: str | None = None) -> str:
         headers = {"Authorization": f"Bearer {self.token}"} if self.token else {}
-        asked = urllib.request.Request(f"{self.url}{path}", None if body is None else body.encode(), headers, method=method)
         try:
-            with urllib.request.urlopen(asked, timeout=TIMEOUT) as answer:
-                return str(answer.read().decode())
+            asked = urllib.request.Request(f"{self.url}{path}", None if body is None else body.encode(), headers, method=method)
+            with self.opener.open(asked, timeout=TIMEOUT) as answer:
+                told: bytes = answer.read(MOST + 1)
         except urllib.error.HTTPError as why:
             raise HttpError(why.code, why.read(300).decode("utf-8", "replace").strip()) from None
         except (OSError, ValueError) as why:
             raise HttpError(0, f"{self.url} doesn't answer: {why}") from None
+        if len(told) > MOST:
+            raise HttpError(0, f"{self.url} answers more than {MOST} bytes")
+        return told.decode("utf-8", "replace")
 
 
-class RemoteChain:
-    """One arc's chain. Whoever reads it replays it by the contract."""
+class RemoteChains:
+    """The chains next to a party of a deal, for the engine. They are final at once, and their clock
+    waits for its wallets."""
 
-    def __init__(self, server: Http, deal: Header, arc: int) -> None:
-        self.server, self.path = server, f"/deals/{deal.deal_id().hex()}/{arc}"
-        self.contract = Contract(deal, arc)
-        self.entries: list[Entry] = []
-        self.height = 0
+    def __init__(self, server: Http) -> None:
+        self.server = server
+        self.lines: dict[int, list[str]] = {}
 
-    def look(self) -> RemoteChain:
-        for line in self.server.ask("GET", f"{self.path}?from={len(self.entries)}").splitlines():
-            entry = entry_of(line)
-            self.entries.append(entry)
-            if isinstance(entry, Tick):
-                self.height += entry.by
-            else:
-                self.contract.reply(self.height, entry.party, entry.call)
-        return self
+    def begin(self, deal: Header, me: int, near: Iterable[int]) -> None:
+        self.deal, self.me, self.path = deal, me, f"/deals/{deal.deal_id().hex()}"
+        self.lines = {arc: [] for arc in near}
+        self.server.ask("PUT", "/deals", deal.line)
 
-    def call(self, party: int, call: Call) -> None:
-        self.server.ask("POST", f"{self.path}/{party}", str(call))
+    def look(self) -> bool:
+        """Whether anything stands there that wasn't read before."""
+        return any([self.count(arc) < len(self.read(arc).lines) for arc in self.lines])
+
+    def count(self, arc: int) -> int:
+        return len(self.lines[arc])
+
+    def read(self, arc: int) -> Reading:
+        lines = self.lines[arc]
+        lines += self.server.ask("GET", f"{self.path}/{arc}?from={len(lines)}").splitlines()
+        return Reading(tuple(lines))
+
+    def present(self, arc: int, call: Call, until: int | None) -> None:
+        self.server.ask("POST", f"{self.path}/{arc}/{self.me}", str(call))
+
+    def sleep(self, until: int | None) -> None:
+        time.sleep(PAUSE)
+
+    def rest(self, name: str, heights: Mapping[int, int]) -> None:
+        """Tells the clock that the wallet has done what was due at these heights."""
+        told = " ".join(f"{arc}:{height}" for arc, height in heights.items())
+        self.server.ask("POST", f"{self.path}/rest", f"{name} {told}")
+
+    def ends(self) -> dict[int, str]:
+        """Where the units of each arc are."""
+        return {arc: end_of(lines) for arc, lines in self.lines.items()}
 
 
-class Settlement:
-    """A swap that this wallet agreed to, from its notes on. Killed at any moment it goes on from
-    there."""
-
-    def __init__(self, party: Party, chains: Http, notes: Path, name: str, seed: bytes, agreed: str, header: str, context: str) -> None:
-        self.party, self.server, self.name, self.seed, self.agreed = party, chains, name, seed, agreed
-        self.header, self.context, self.deal = header, tuple(context.splitlines()), Header.of(header)
-        self.me = self.deal.names.index(name)
-        self.notes = Notes(notes)
-        chains.ask("PUT", "/deals", header)
-        self.chains = {arc: RemoteChain(chains, self.deal, arc).look() for arc, ends in enumerate(self.deal.ends) if self.me in ends}
-        self.lost: list[Sent] = []
-        self.seen: tuple[list[int], list[int]] | None = None
-
-    def answer(self) -> Answer:
-        """All that is due."""
-        ledgers = [Ledger(arc, tuple(map(str, chain.entries))) for arc, chain in self.chains.items()]
-        notes = tuple(it for it in self.notes.notes if it not in self.lost)
-        return Answer.parse(self.party.next(self.name, self.seed, str(Asked(self.agreed, notes, self.header, self.context, tuple(ledgers)))))
-
-    def turn(self) -> bool:
-        """Does all that is due, tells the chains that it rests, and says whether the swap is over."""
-        for chain in self.chains.values():
-            chain.look()
-        # (between two turns no call is under way: these chains take a call at once or never)
-        self.lost = [it for it in self.notes.notes if isinstance(it, Sent) and not self.chains[it.arc].contract.sent[self.me]]
-        seen = [len(it.entries) for it in self.chains.values()], [it.height for it in self.chains.values()]
-        if seen != self.seen:
-            while not isinstance(rest := self.step(), Wait) and rest is not None:
-                pass
-            self.seen = [len(it.entries) for it in self.chains.values()], [it.height for it in self.chains.values()]
-        heights = " ".join(f"{arc}:{chain.height}" for arc, chain in self.chains.items())
-        self.server.ask("POST", f"/deals/{self.deal.deal_id().hex()}/rest", f"{self.name} {heights}")
-        return all(it.height > self.deal.horizon for it in self.chains.values())
-
-    def step(self) -> Answer | Wait | None:
-        """Asks once, and obeys. None where nothing is left to do in this turn."""
-        answer = self.answer()
-        if answer.rest is not None or all(isinstance(it, Landing) for it in answer.told):
-            return answer.rest if isinstance(answer.rest, Wait) else None
-        for told in answer.told:
-            if isinstance(told, Keep):
-                self.notes.add(told)
-            elif isinstance(told, Due):
-                self.present(told)
-        for chain in self.chains.values():
-            chain.look()
-        return answer
-
-    def present(self, due: Due) -> None:
-        """Presents a call. A publish is written down before it goes out."""
-        if isinstance(due.call, Publish):
-            self.notes.add(Sent(due.arc))
-            self.lost = [it for it in self.lost if it != Sent(due.arc)]
-        self.chains[due.arc].call(self.me, due.call)
-
-    def end(self) -> dict[str, str]:
-        """Where the units of each of its arcs are."""
-        self.notes.close()
-        found = {}
-        for arc, chain in self.chains.items():
-            contract = chain.contract
-            paid = contract.balances[contract.counterparty] > 0
-            found[str(arc)] = "paid" if paid else "returned" if contract.settled or not contract.published else "held"
-        return found
+def end_of(lines: Iterable[str]) -> str:
+    """Where the units of a chain with these entries are."""
+    calls = {line.split(" ")[2] for line in lines if line.startswith("c ") and line.endswith(" = accepted")}
+    return "paid" if "claim" in calls else "returned" if "refund" in calls or "publish" not in calls else "held"

@@ -43,7 +43,11 @@ SERVED = (
     "create table served (day text primary key, stage text not null, closes double precision, opens double precision)",
     "create table answer (day text, swap bigint, name text, kind text, text text not null, primary key (day, swap, name, kind))",
 )
-STEPS = (FIRST, NAMED, SERVED)
+INDEXED = (
+    "create unique index sent_mark on sent (payer, mark)",
+    "create index wish_of_payer on wish (day, payer, number)",
+)
+STEPS = (FIRST, NAMED, SERVED, INDEXED)
 VERSION = len(STEPS)
 
 

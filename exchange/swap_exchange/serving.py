@@ -2,7 +2,8 @@
 from __future__ import annotations
 
 import argparse
-import os
+import socket
+import threading
 from collections.abc import Sequence
 from importlib.util import find_spec
 from pathlib import Path
@@ -11,7 +12,7 @@ from typing import Any
 import uvicorn
 
 from .api import Api, application
-from .commands import FAULT, REFUSED, TOP, Words, best, best_library, in_range, told
+from .commands import programs_of
 from .database import StateError, opened
 from .keeper import Chains, Keeper
 from .pool import Crew, Workers
@@ -19,7 +20,12 @@ from .progress import Log, Metrics, Progress
 from .store import Store
 from .tables import RuleError, Table, id_of
 from .wishes import ASSET, assets_of
-from .work import FaultError, Programs, RefusedError, has_program
+from .words import FAULT, REFUSED, TOP, Words, in_range, told
+from .work import FaultError, RefusedError
+
+# The most connections at once; how many seconds one without a request is kept, which is longer than
+# proxies keep theirs; and how many a request that is under way may take once the service ends
+CONNECTIONS, KEPT_OPEN, GRACE = 2000, 75, 0.4
 
 
 def all_words() -> argparse.ArgumentParser:
@@ -42,12 +48,6 @@ def all_words() -> argparse.ArgumentParser:
     return words
 
 
-def programs_of(asked: argparse.Namespace) -> Programs:
-    swap, party = (os.path.abspath(path or best(name)) for name, path in (("swap", asked.swap), ("party", asked.party)))
-    library = "" if asked.swap else os.environ.get("SWAP_PARTY_LIBRARY") or best_library()
-    return Programs(swap, party, library if library and has_program(library) else "")
-
-
 def served(asked: argparse.Namespace, store: Store) -> int:
     """Serves until a signal ends it."""
     table = Table(asked.assets or "", Path(asked.assets).read_bytes() if asked.assets else b"", ASSET, ("decimals", "price"))
@@ -58,18 +58,39 @@ def served(asked: argparse.Namespace, store: Store) -> int:
     metrics = Metrics(None) if find_spec("prometheus_client") else None
     progress = Progress(False, Log(asked.log), metrics)
     keeper = Keeper(store, crew, Chains(asked.chains), assets, (asked.start, asked.delta), asked.patience, progress)
+    listening = listens(asked.host, asked.port)
     server: Any = None
     api = Api(store, keeper, lambda: bool(server.should_exit))
-    config = uvicorn.Config(application(api, (TOP / "VERSION").read_text().strip()), asked.host, asked.port, log_level="warning", limit_concurrency=2000)
-    server = uvicorn.Server(config)
+    app = application(api, (TOP / "VERSION").read_text().strip())
+    config = uvicorn.Config(app, log_level="warning", limit_concurrency=CONNECTIONS, timeout_keep_alive=KEPT_OPEN)
+    server = Server(config)
     thread = keeper.start()
     try:
-        server.run()
+        server.run([listening])
     finally:
         keeper.is_over.set()
-        thread.join(1)
+        thread.join(GRACE)
         crew.workers.close()
+    told("stopped", "what was answered is kept")
     return 0 if server.started else FAULT
+
+
+def listens(host: str, port: int) -> socket.socket:
+    try:
+        return socket.create_server((host, port), family=socket.AF_INET6 if ":" in host else socket.AF_INET, backlog=2048)
+    except OSError as why:
+        raise FaultError(f"it can't listen at {host}, port {port}: {why.strerror or why}") from None
+
+
+class Server(uvicorn.Server):  # type: ignore[misc]
+    """Ends soon, whoever holds a connection to it open."""
+
+    def handle_exit(self, number: int, frame: object) -> None:
+        super().handle_exit(number, frame)
+        threading.Timer(GRACE, self.end).start()
+
+    def end(self) -> None:
+        self.force_exit = True
 
 
 def main(arguments: Sequence[str]) -> int:

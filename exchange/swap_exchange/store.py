@@ -81,7 +81,11 @@ def hashed(token: str) -> str:
 class Store:
     def __init__(self, database: Database, length: float | None = None) -> None:
         self.database, self.length = Shared(database), length
+        # (the swaps for which an answer came since this was asked last)
+        self.touched: set[tuple[str, int]] = set()
         migrate(self.database)
+        # (everybody by the hash of the token: no other process has the state)
+        self.people = {str(token): Person(str(name), bool(it)) for name, token, it in self.database.rows("select name, token, is_admin from person")}
         with self.database.step():
             if not self.database.rows("select day from served where stage = ?", OPEN):
                 self.open()
@@ -94,11 +98,13 @@ class Store:
         with self.database.step():
             self.database.change("delete from person where name = ?", name)
             self.database.change("insert into person values (?, ?, ?)", name, hashed(token), int(is_admin))
+        with self.database.lock:
+            others = {it: person for it, person in self.people.items() if person.name != name}
+            self.people = {**others, hashed(token): Person(name, is_admin)}
         return token
 
     def person(self, token: str) -> Person | None:
-        found = self.database.rows("select name, is_admin from person where token = ?", hashed(token))
-        return Person(str(found[0][0]), bool(found[0][1])) if found else None
+        return self.people.get(hashed(token))
 
     # ---- days
 
@@ -115,12 +121,25 @@ class Store:
     def open_day(self) -> str:
         return str(self.database.rows("select day from served where stage = ?", OPEN)[0][0])
 
-    def close_day(self, is_due: bool = False) -> str | None:
-        """Closes the open day, and opens the next one. Where it has to be due, only then."""
+    def closed_days(self) -> list[str]:
+        """The days that are closed and aren't over, oldest first."""
+        return [str(day) for (day,) in self.database.rows("select day from served where stage = ? order by opens, day", CLOSED)]
+
+    def stage_of(self, day: str) -> str | None:
+        found = self.database.rows("select stage from served where day = ?", day)
+        return str(found[0][0]) if found else None
+
+    def close_day(self, is_due: bool = False, which: str | None = None) -> str | None:
+        """Closes the open day, and opens the next one. Where it has to be due, only then. A day that
+        is named and was closed before stays so."""
         with self.database.step():
             day, closes = self.database.rows("select day, closes from served where stage = ?", OPEN)[0]
             if is_due and (closes is None or closes > time.time()):
                 return None
+            if which is not None and which != day:
+                if self.stage_of(which) is None:
+                    raise ConflictError(f"there is no day {which!r}")
+                return which
             self.database.change("update served set stage = ? where day = ?", CLOSED, day)
             self.open()
         return str(day)
@@ -159,6 +178,12 @@ class Store:
             self.database.change("update sent set is_withdrawn = 1 where id = ?", wish)
         return True
 
+    def became(self, payer: str, day: str) -> list[Row]:
+        """The state, the reason and the swap of each wish of a user on a day that is over, in the order
+        of their numbers."""
+        ask = "select state, reason, swap from wish where day = (select id from day where name = ?) and payer = ? order by number"
+        return self.database.rows(ask, day, payer)
+
     def sent_by(self, payer: str) -> list[Row]:
         return self.database.rows("select id, day, payee, units, asset, value, is_withdrawn from sent where payer = ? order by id", payer)
 
@@ -180,3 +205,8 @@ class Store:
                 self.database.change("insert into answer values (?, ?, ?, ?, ?)", day, swap, name, kind, text)
             elif found != text:
                 raise ConflictError(f"another {kind} was sent before")
+        self.touched.add((day, swap))
+
+    def take_touched(self) -> set[tuple[str, int]]:
+        touched, self.touched = self.touched, set()
+        return touched

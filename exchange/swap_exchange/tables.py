@@ -13,8 +13,8 @@ from typing import Any, TypeVar
 
 Read = TypeVar("Read")
 Words = dict[str, str]
-# How many bad rows are kept, the longest name, the most bytes of a message, and of a word in it
-MOST_BAD, NAME, MESSAGE, WORD = 1000, 64, 200, 40
+# The longest name, the most bytes of a message, and of a word in it
+NAME, MESSAGE, WORD = 64, 200, 40
 
 
 class RuleError(ValueError):
@@ -40,14 +40,17 @@ def quoted(word: object) -> str:
 def id_of(word: str, what: str) -> str:
     """A customer's id or an asset's, in its one normal form."""
     name = unicodedata.normalize("NFC", word)
-    rule(1 <= len(name) <= NAME, f"{what} {quoted(word)} hasn't 1 to {NAME} characters")
-    rule(name.isprintable() and name == name.strip(), f"{what} {quoted(word)} has a control character, or blanks at an end")
+    if not 1 <= len(name) <= NAME:
+        raise RuleError(f"{what} {quoted(word)} hasn't 1 to {NAME} characters")
+    if not name.isprintable() or name != name.strip():
+        raise RuleError(f"{what} {quoted(word)} has a control character, or blanks at an end")
     return name
 
 
 def whole(word: str, what: str, least: int, most: int) -> int:
     good = word.isascii() and word.isdigit() and len(word) <= len(str(most)) + 1
-    rule(good and least <= int(word) <= most, f"{what} {quoted(word)} is no whole number from {least} to {most}")
+    if not good or not least <= int(word) <= most:
+        raise RuleError(f"{what} {quoted(word)} is no whole number from {least} to {most}")
     return int(word)
 
 
@@ -72,13 +75,9 @@ class Table:
     fields: Sequence[str]
     optional: Sequence[str] = ()
     bad: list[str] = field(default_factory=list)
-    count: int = 0
 
     def blame(self, line: int, why: object) -> None:
-        self.count += 1
-        if len(self.bad) < MOST_BAD:
-            told = f"{clipped(self.file, 60)}: line {line}: {why}"
-            self.bad.append(clipped(told))
+        self.bad.append(clipped(f"{clipped(self.file, 60)}: line {line}: {why}"))
 
     def each(self, read: Callable[[Words], Read]) -> Iterator[Read]:
         """What each good row is read as."""
@@ -109,10 +108,11 @@ class Table:
                 yield line, lambda told=told, header=header: zipped(header, told.decode())  # type: ignore[misc]
 
     def checked(self, row: Words) -> Words:
-        for name in row:
-            rule(name in self.fields, f"{quoted(name)} is no field; the fields are {','.join(self.fields)}")
-        for name in self.fields:
-            rule(name in row or name in self.optional, f"{quoted(name)} is missing; the fields are {','.join(self.fields)}")
+        unknown = [name for name in row if name not in self.fields]
+        missing = [name for name in self.fields if name not in row and name not in self.optional]
+        if unknown or missing:
+            told = f"{quoted(unknown[0])} is no field" if unknown else f"{quoted(missing[0])} is missing"
+            raise RuleError(f"{told}; the fields are {','.join(self.fields)}")
         return row
 
 

@@ -15,9 +15,10 @@ from swap_party.header import compact
 from swap_party.report import Report
 
 from .clock import Clock
+from .context import about
 from .limits import fits_audit
 from .living import Living, started, why_ended
-from .work import Batch, Ended, FaultError, Group, Placed, Prepared, Programs, RefusedError, Settled, Way, ask_party, ask_swap, cleared, ended
+from .work import Batch, Ended, FaultError, Group, Placed, Prepared, Programs, RefusedError, Settled, Way, ask_swap, cleared, deal_of, ended
 
 # What lies beside the wallets' own folders
 FILES = re.compile("board|offer|context|names|start|lock|chain[0-9]+")
@@ -51,8 +52,8 @@ def prepare(folder: str, programs: Programs, group: Group) -> Prepared:
         offer = compact(plain.fields()) + "\n"
         room = opened(room_of(folder, group.number), offer, group.assets, plain.parties)
         header = agreed(programs, room, plain.parties)
-        rows = "".join((room / "board" / f"{name}.row").read_text() for name in plain.parties)
-        if header != ask_party(programs, ["deal"], offer + rows).strip():
+        rows = [(room / "board" / f"{name}.row").read_text() for name in plain.parties]
+        if header != deal_of(programs, offer, rows):
             raise RefusedError("the wallets agree to another deal")
         ask_swap(programs, ["check"], header)
     except RefusedError as why:
@@ -64,7 +65,8 @@ def opened(room: Path, offer: str, assets: Sequence[str], names: Sequence[str]) 
     """A room with all that wallets read before they agree."""
     (room / "board").mkdir(parents=True, exist_ok=True)
     put(room / "offer", offer)
-    put(room / "context", "".join(f"about {arc} asset {asset} on chain{arc}\n" for arc, asset in enumerate(assets)))
+    context = [line for arc, asset in enumerate(assets) for line in about(arc, {"asset": asset, "chain": f"chain{arc}"})]
+    put(room / "context", "".join(f"{line}\n" for line in context))
     put(room / "names", " ".join(names))
     for arc in range(len(assets)):
         (room / f"chain{arc}").touch()

@@ -87,7 +87,6 @@ class Book:
     wishes: list[Wish]
     accounts: list[Account] | None
     bad: list[str]
-    count: int
 
 
 def assets_of(table: Table) -> dict[str, Asset]:
@@ -119,7 +118,7 @@ def wishes_of(table: Table, assets: Assets) -> list[Wish]:
         return wish
 
     found = list(table.each(put))
-    if not found and not table.count:
+    if not found and not table.bad:
         table.blame(1, "there is no wish")
     return found
 
@@ -146,13 +145,13 @@ def book_of(wishes: tuple[str, bytes], accounts: tuple[str, bytes] | None, asset
     if accounts:
         tables.append(Table(*accounts, ACCOUNT))
         had = accounts_of(tables[-1], known)
-    return Book(known, found, had, [it for table in tables for it in table.bad], sum(it.count for it in tables))
+    return Book(known, found, had, [it for table in tables for it in table.bad])
 
 
 def good(book: Book) -> Book:
     """The book, if no row of it is bad; else the first bad one is told."""
     if book.bad:
-        raise RefusedError(book.bad[0] + (f" (and {book.count - 1} more: --check lists them)" if book.count > 1 else ""))
+        raise RefusedError(book.bad[0] + (f" (and {len(book.bad) - 1} more: --check lists them)" if len(book.bad) > 1 else ""))
     return book
 
 

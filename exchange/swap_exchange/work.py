@@ -4,13 +4,14 @@ from __future__ import annotations
 import os
 import subprocess
 import zlib
-from collections.abc import Callable, Mapping
+from collections.abc import Callable, Iterable, Mapping
 from dataclasses import dataclass
 from functools import lru_cache
 from importlib import import_module
 from typing import Any, TypeVar
 
 from swap_party import Cleared, Plain
+from swap_party import RefusedError as PartyRefusedError
 from swap_party.header import json_object
 from swap_party.many import Chain
 from swap_party.report import Ledger, Report
@@ -167,8 +168,14 @@ def ask_swap(programs: Programs, words: list[str], text: str) -> str:
     return wanted(" ".join(["swap", *words[:1]]), lambda: run_swap(programs, words, text))
 
 
-def ask_party(programs: Programs, words: list[str], text: str) -> str:
-    return wanted(" ".join(["party", *words[:1]]), lambda: run([programs.party, *words], text))
+def deal_of(programs: Programs, offer: str, rows: Iterable[str]) -> str:
+    """The header line of the deal of everybody's rows, by `party deal`."""
+    if not programs.library:
+        return wanted("party deal", lambda: run([programs.party, "deal"], offer + "".join(rows))).strip()
+    try:
+        return str(library_of(programs.library)[1].deal(offer, rows)).strip()
+    except PartyRefusedError as why:
+        raise RefusedError(why.reason) from None
 
 
 def wanted(what: str, asking: Callable[[], Done]) -> str:
