@@ -6,7 +6,7 @@ _swap() {
     local is_launcher=
     [[ $1 == */* && -e ${1%/*}/crates.txt ]] && is_launcher=1
     commands='check run race audit make gen clear many'
-    [[ $name == party ]] && commands='keys deal terms next'
+    [[ $name == party ]] && commands='keys deal terms next judge'
     if ((COMP_CWORD == 1)); then
         words=$commands
         [[ $is_launcher ]] && words+=" --help --version help"
@@ -14,6 +14,7 @@ _swap() {
     else
         case $name:$first in
         swap:run) words=--transcript ;;
+        party:judge) words=--json ;;
         swap:race) words='--ticks --transcript' ;;
         swap:gen) words='--seed --parties --events --summary' ;;
         esac
